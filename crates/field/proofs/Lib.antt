@@ -1,0 +1,4 @@
+pub mod ChoiceLaws
+pub mod OctetsLaws
+pub mod OverwriteLaws
+pub mod FieldLaws

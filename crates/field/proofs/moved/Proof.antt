@@ -1,0 +1,24 @@
+use native.Mathlib.Omega.{arith}
+use borrow.Author.Needs.{needs}
+use Rattle.field.proofs.moved.Statement.{statement}
+use Rattle.field.proofs.moved.Tie as tie
+use Rattle.field.proofs.moved.Reads as reads
+use Rattle.field.proofs.moved.Lts as lts
+
+enum-known-p : tie.Need-enum-known-p
+enum-known-p c = search needs
+
+add-t7 : tie.Need-add-t7
+add-t7 c = omega (arith, rw (c .before .p .given .1) at (c .before .before .before .pre))
+
+enum-known-p-2 : tie.Need-enum-known-p-2
+enum-known-p-2 c = search needs
+
+returns : tie.Need-returns
+returns c = rw (c .before .p .given .1)
+
+returns-2 : tie.Need-returns-2
+returns-2 c = rw (c .before .p2 .given .1)
+
+pub moved-spec : {M : Type 1} → statement M
+moved-spec = tie.close (tie.spec enum-known-p add-t7 enum-known-p-2 returns returns-2)

@@ -1,0 +1,114 @@
+// Fields of a fixed width, read from a lent message and written into a lent output.
+ghost use mathlib.Core.Path.{_≡_};
+ghost use mathlib.Core.List.{_∷_, []};
+ghost use Prim.Native.Nat.{_+_, _^_, _≤_, _<_};
+ghost use lib.ListN.{length};
+ghost use Rattle.field.specs.Octets.{encode16, overwriteAt};
+ghost use Rattle.field.specs.Field.{octetAt, numberAt, movedBy, placeOf};
+
+// The numbers that a call answers with (01's table). The names are those of specs/Answer.antt.
+pub const DONE: u8 = 0;
+
+pub const INCOMPLETE: u8 = 1;
+
+pub const UNKNOWN_KIND: u8 = 4;
+
+pub const WRONG_ID: u8 = 5;
+
+pub const UNKNOWN_TYPE: u8 = 7;
+
+pub const BAD_BOOLEAN: u8 = 8;
+
+pub const NOT_UTF8: u8 = 9;
+
+pub const TOO_LONG: u8 = 10;
+
+pub const OUTPUT_TOO_SHORT: u8 = 12;
+
+// What a reader answers: a refusal's number and the place of the first byte of the field that failed, or how many bytes it took.
+pub enum Parsed {
+    Refused(u8, usize),
+    Taken(usize),
+}
+
+// A field of one byte, and of two.
+pub enum Octet {
+    There(u8),
+    Missing,
+}
+
+pub enum Number {
+    There(u16),
+    Missing,
+}
+
+fn wide(x: u8) -> u16
+    ensures { λ r. ⌜ (r ≡ x) × (r ≤ 255) ⌝ }
+{
+    x as u16
+}
+
+// The byte at a place.
+pub fn read_u8(s: &[u8], at: usize) -> Octet
+    ensures { λ r. ⌜ r ≡ octetAt (now (s .entry)) at ⌝ }
+{
+    if s.len() <= at {
+        return Octet::Missing;
+    }
+    Octet::There(s[at])
+}
+
+// The two bytes at a place, the higher one first.
+pub fn read_u16(s: &[u8], at: usize) -> Number
+    ensures { λ r. ⌜ r ≡ numberAt (now (s .entry)) at ⌝ }
+{
+    if s.len() < 2 {
+        return Number::Missing;
+    }
+    if s.len() - 2 < at {
+        return Number::Missing;
+    }
+    let high = wide(s[at]);
+    let low = wide(s[at + 1]);
+    Number::There(high * 256 + low)
+}
+
+// A reader's answer for bytes that begin at `from`, with a refusal's place counted from the start.
+pub fn moved(p: Parsed, from: usize) -> Parsed
+    requires { ⌜ from + placeOf p < 2 ^ 64 ⌝ }
+    ensures { λ r. ⌜ r ≡ movedBy from p ⌝ }
+{
+    match p {
+        Parsed::Refused(number, place) => Parsed::Refused(number, from + place),
+        Parsed::Taken(n) => Parsed::Taken(n),
+    }
+}
+
+// Stores one byte at a place.
+pub fn put_u8(out: &mut [u8], at: usize, x: u8)
+    requires { ⌜ at + 1 ≤ length (now out) ⌝ }
+    ensures { λ _. ⌜ now (out .exit) ≡ overwriteAt (now (out .entry)) at (x ∷ []) ⌝ }
+{
+    out[at] = x;
+}
+
+// Stores two bytes at a place, the higher one first.
+pub fn put_u16(out: &mut [u8], at: usize, x: u16)
+    requires { ⌜ at + 2 ≤ length (now out) ⌝ }
+    ensures { λ _. ⌜ now (out .exit) ≡ overwriteAt (now (out .entry)) at (encode16 x) ⌝ }
+{
+    out[at] = (x / 256) as u8;
+    out[at + 1] = (x % 256) as u8;
+}
+
+// Stores all bytes of `src` from a place on.
+pub fn copy_into(out: &mut [u8], at: usize, src: &[u8])
+    requires { ⌜ at + length (now src) ≤ length (now out) ⌝ }
+    ensures { λ _. ⌜ now (out .exit) ≡ overwriteAt (now (out .entry)) at (now (src .entry)) ⌝ }
+{
+    let mut j = 0;
+    while j < src.len() {
+        out[at + j] = src[j];
+        j += 1;
+    }
+}

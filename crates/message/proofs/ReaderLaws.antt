@@ -1,0 +1,42 @@
+-- Laws of the reader that its code cites.
+use mathlib.Core.Path.{_≡_, refl, sym, ap, _∙_}
+use mathlib.Core.Bool.{Bool, true}
+use mathlib.Core.List.{List}
+use Prim.Native.Nat.{ℕ, _+_, _-_, _≤_}
+use native.Mathlib.Omega.{arith}
+use lib.ListN.{length, drop, getD, length-drop}
+use lib.Dec.{leb}
+use borrow.Author.Tests.{le-leb}
+use Rattle.field.specs.Answer.{incomplete, wrongId}
+use Rattle.field.specs.Choice.{pick}
+use Rattle.field.specs.Octets.{decode16}
+use Rattle.field.specs.Field.{movedBy, andThen}
+use Rattle.field.specs.declared.Parsed.{Parsed}
+use Rattle.field.specs.declared.Parsed.the-variants.{Refused, Taken}
+use Rattle.text.specs.Text.{parseText}
+use Rattle.text.proofs.TextLaws.{TextIs, text-is}
+use Rattle.value.specs.Value.{knownType}
+use Rattle.message.specs.Reader.{parseName, parseValueAt, parseAfterName}
+use Rattle.message.specs.declared.AssignmentRead.{AssignmentRead}
+use Rattle.message.specs.declared.AssignmentRead.the-variants as A
+
+-- a name that was read has its prefix, and its bytes are there
+pub name-taken : (m : List ℕ) (n : ℕ) → 1 ≤ length m → parseName m ≡ Taken n → (2 ≤ n) × (1 + n ≤ length m)
+unfolding parseName
+name-taken m n h e = go (parseText 66 0 (drop 1 m)) (text-is 66 0 (drop 1 m)) e
+  where
+    go : (r : Parsed) → TextIs 66 0 (drop 1 m) r → movedBy 1 r ≡ Taken n → (2 ≤ n) × (1 + n ≤ length m)
+    go (Refused k p) t q = let z : _≡_ {A = ℕ} 0 1 = cc in absurd (omega arith)
+    go (Taken k) (TextIs.taken a b c u f) q = let k-is : k ≡ n = cc in (omega arith, omega (arith, length-drop 1 m))
+
+-- what is left to decide once an assignment's type and ID are there, and its type is known
+unfoldable pub behindId : (ℕ → Bool) → (at t id : ℕ) → List ℕ → AssignmentRead
+behindId allowed at t id m =
+    pick (allowed id)
+    (pick (leb (at + 5) (length m)) (andThen A.Refused (parseValueAt t (at + 5) m) (λ v. A.Assignment (at - 3) t id (decode16 (drop (at + 3) m)) v)) (A.Refused incomplete (at + 3)))
+    (A.Refused wrongId (at + 1))
+
+pub after-id : (allowed : ℕ → Bool) (at t id : ℕ) (m : List ℕ) → at + 3 ≤ length m → t ≡ getD m at 0 → knownType t ≡ true → id ≡ decode16 (drop (at + 1) m)
+    → parseAfterName allowed at m ≡ behindId allowed at t id m
+unfolding parseAfterName behindId pick
+after-id allowed at t id m h e k i = rw (le-leb (at + 1) (length m) (omega arith), ← e, k, le-leb (at + 3) (length m) h, ← i)

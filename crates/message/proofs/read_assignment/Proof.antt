@@ -1,0 +1,60 @@
+use mathlib.Core.Path.{_≡_, refl, sym, ap, _∙_}
+use native.Mathlib.Omega.{arith}
+use Rattle.message.specs.Reader.{parseAssignment}
+use Rattle.message.proofs.ReaderLaws.{name-taken}
+use borrow.Author.Needs.{needs}
+use Rattle.message.proofs.read_assignment.Statement.{statement}
+use Rattle.message.proofs.read_assignment.Tie as tie
+use Rattle.message.proofs.read_assignment.Reads as reads
+use Rattle.message.proofs.read_assignment.Lts as lts
+use Rattle.message.proofs.read_after_name.Reads as read-after-name-reads
+use Rattle.message.proofs.read_name.Reads as read-name-reads
+use Rattle.message.proofs.refused_assignment.Reads as refused-assignment-reads
+
+read-name-requires : tie.Need-read-name-requires
+read-name-requires c κs = search needs
+
+enum-known-name : tie.Need-enum-known-name
+enum-known-name c = search needs
+
+enum-told : tie.Need-enum-told
+enum-told c = search needs
+
+refused-assignment-requires : tie.Need-refused-assignment-requires
+refused-assignment-requires c κs = search needs
+
+returns : tie.Need-returns
+unfolding parseAssignment
+returns c =
+    let e = c .before .enum-told .given in
+    rw (← (c .before .before .before .read-name .ensures), e .1) (c .refused-assignment .ensures (e .0 .0) (e .0 .1 .0) (e .1))
+
+add-read-after-name : tie.Need-add-read-after-name
+add-read-after-name c =
+    let f = c .before in
+    let a = f .before .before .before .before in
+    omega (arith, name-taken (a .args .m .now) (f .name .given .0 .0) (a .pre) (sym (f .before .before .read-name .ensures) ∙ f .name .given .1))
+
+read-after-name-requires : tie.Need-read-after-name-requires
+read-after-name-requires c κs =
+    let f = c .before in
+    let a = f .before .before .before .before in
+    let h = name-taken (a .args .m .now) (f .name .given .0 .0) (a .pre) (sym (f .before .before .read-name .ensures) ∙ f .name .given .1) in
+    (omega arith, h .1)
+
+returns-2 : tie.Need-returns-2
+unfolding parseAssignment
+returns-2 c = rw (← (c .before .before .before .before .read-name .ensures), c .before .before .name .given .1) (c .read-after-name .ensures)
+
+pub read-assignment-spec : {M : Type 1} → statement M
+read-assignment-spec =
+    tie.close
+    (tie.spec
+    read-name-requires
+    enum-known-name
+    enum-told
+    refused-assignment-requires
+    returns
+    add-read-after-name
+    read-after-name-requires
+    returns-2)

@@ -1,0 +1,51 @@
+use mathlib.Core.Path.{_≡_, refl, ap, _∙_}
+use native.Mathlib.Omega.{arith}
+use lib.ListN.{length, drop, length-drop}
+use Rattle.field.proofs.OctetsLaws.{rest-all}
+use Rattle.value.specs.Value.{parseValue}
+use Rattle.value.proofs.ValueLaws.{value-place}
+use Rattle.message.specs.Reader.{parseValueAt}
+use borrow.Author.Needs.{needs}
+use Rattle.message.proofs.read_value_at.Statement.{statement}
+use Rattle.message.proofs.read_value_at.Tie as tie
+use Rattle.message.proofs.read_value_at.Reads as reads
+use Rattle.message.proofs.read_value_at.Lts as lts
+use Rattle.field.proofs.moved.Reads as moved-reads
+use Rattle.value.proofs.read_value.Reads as read-value-reads
+
+value-is : (c : tie.After-read-value) → c .read-value .result ≡ parseValue (c .before .before .before .args .t) (drop (c .before .before .before .args .at) (c .before .before .before .args .m .now))
+value-is c =
+    let a = c .before .before .before .args in
+    c .read-value .ensures ∙ ap (parseValue (a .t)) (rest-all (a .at) (a .m .now))
+
+sub-read-value : tie.Need-sub-read-value
+sub-read-value c = search needs
+
+part-read-value-start : tie.Need-part-read-value-start
+part-read-value-start c = search needs
+
+part-read-value-end : tie.Need-part-read-value-end
+part-read-value-end c = search needs
+
+read-value-requires : tie.Need-read-value-requires
+read-value-requires c κs = search needs
+
+moved-requires : tie.Need-moved-requires
+moved-requires c κs =
+    let a = c .before .before .before .args in
+    rw (value-is c) (omega (arith, value-place (a .t) (drop (a .at) (a .m .now)), length-drop (a .at) (a .m .now)))
+
+returns : tie.Need-returns
+unfolding parseValueAt
+returns c = rw (c .moved .ensures, value-is (c .before))
+
+pub read-value-at-spec : {M : Type 1} → statement M
+read-value-at-spec =
+    tie.close
+    (tie.spec
+    sub-read-value
+    part-read-value-start
+    part-read-value-end
+    read-value-requires
+    moved-requires
+    returns)

@@ -1,0 +1,84 @@
+-- Entries, and the six messages as bytes ("Layouts (001)").
+use Prim.Native.Nat.{ℕ}
+use mathlib.Core.Bool.{Bool, true}
+use mathlib.Core.List.{List, [], _∷_, _++_}
+use mathlib.Core.Path.{_≡_}
+use Prim.Native.Nat.{_≤_}
+use lib.ListN.{length}
+use Rattle.field.specs.Octets.{encode16}
+use Rattle.text.specs.Utf8.{isUtf8}
+use Rattle.value.specs.Value.{knownType, IsValue}
+
+-- an entry of the table: its value is the encoded bytes, prefix or count included
+pub record Entry : Type 0 where
+  pub name : List ℕ
+  pub type : ℕ
+  pub number : ℕ
+  pub value : List ℕ
+
+-- "0x00 keep alive; 0x01 hello, revision (2); 0x02 unsupported, revision (2); 0x03 hello complete; 0x10 assignment; 0x11 update"
+abbrev pub keepAliveKind : ℕ
+keepAliveKind = 0x00
+
+abbrev pub helloKind : ℕ
+helloKind = 0x01
+
+abbrev pub unsupportedKind : ℕ
+unsupportedKind = 0x02
+
+abbrev pub helloCompleteKind : ℕ
+helloCompleteKind = 0x03
+
+abbrev pub assignmentKind : ℕ
+assignmentKind = 0x10
+
+abbrev pub updateKind : ℕ
+updateKind = 0x11
+
+-- "names of 0 to 64 bytes"
+abbrev pub maxNameLength : ℕ
+maxNameLength = 64
+
+-- "assignment: name, type (1), ID (2), number (2), value"; "Names are laid out as Strings"
+unfoldable pub assignmentBytes : ℕ → Entry → List ℕ
+assignmentBytes id e =
+    assignmentKind ∷ (encode16 (length (e .name)) ++ (e .name ++ (e .type ∷ (encode16 id ++ (encode16 (e .number) ++ e .value)))))
+
+-- "update: ID (2), number (2), value"
+unfoldable pub updateBytes : ℕ → ℕ → List ℕ → List ℕ
+updateBytes id number value = updateKind ∷ (encode16 id ++ (encode16 number ++ value))
+
+-- a kind and a revision
+unfoldable pub revisionBytes : ℕ → ℕ → List ℕ
+revisionBytes kind revision = kind ∷ encode16 revision
+
+pub data Message : Type 0 where
+  keepAlive : Message
+  hello : (revision : ℕ) → Message
+  unsupported : (revision : ℕ) → Message
+  helloComplete : Message
+  assignment : (id : ℕ) → Entry → Message
+  update : (id number : ℕ) (value : List ℕ) → Message
+
+unfoldable pub layout : Message → List ℕ
+layout keepAlive = keepAliveKind ∷ []
+layout (hello revision) = revisionBytes helloKind revision
+layout (unsupported revision) = revisionBytes unsupportedKind revision
+layout helloComplete = helloCompleteKind ∷ []
+layout (assignment id e) = assignmentBytes id e
+layout (update id number value) = updateBytes id number value
+
+-- "names and values that obey this paper"
+pub record WellFormed (e : Entry) : Type 0 where
+  pub name-fits : length (e .name) ≤ maxNameLength
+  pub name-text : isUtf8 (e .name) ≡ true
+  pub value-whole : IsValue (e .type) (e .value)
+
+-- a message whose name and value obey this paper; an update's type is t
+abbrev pub WellFormedMessage : ℕ → Message → Type 0
+WellFormedMessage t keepAlive = Unit {0}
+WellFormedMessage t (hello revision) = Unit {0}
+WellFormedMessage t (unsupported revision) = Unit {0}
+WellFormedMessage t helloComplete = Unit {0}
+WellFormedMessage t (assignment id e) = WellFormed e
+WellFormedMessage t (update id number value) = IsValue t value

@@ -1,0 +1,41 @@
+// The sequence number of an entry: serial number arithmetic (RFC 1982) with 16 bits.
+use std::num::wrapping_add_u16;
+use std::num::wrapping_sub_u16;
+ghost use mathlib.Core.Path.{_≡_};
+ghost use Rattle.sequence.specs.SequenceNumber.{start, nextNumber, passedBy};
+
+pub struct SequenceNumber(pub u16);
+
+impl SequenceNumber {
+    pub const START: u16 = 1;
+
+    pub const HALF: u16 = 32768;
+
+    // The number of a new entry.
+    pub fn start() -> SequenceNumber
+        ensures { λ r. ⌜ r .0 ≡ start ⌝ }
+    {
+        SequenceNumber(Self::START)
+    }
+
+    // The number of the next write: 65,535 is followed by 0.
+    pub fn next(self) -> SequenceNumber
+        ensures { λ r. ⌜ r .0 ≡ nextNumber (self .0) ⌝ }
+    {
+        let n = self.0;
+        SequenceNumber(wrapping_add_u16(n, 1))
+    }
+
+    // Whether the received number is strictly greater than this stored one.
+    pub fn is_passed_by(self, received: SequenceNumber) -> bool
+        ensures { λ r. ⌜ r ≡ passedBy (self .0) (received .0) ⌝ }
+    {
+        let stored = self.0;
+        let got = received.0;
+        let distance = wrapping_sub_u16(got, stored);
+        if distance == 0 {
+            return false;
+        }
+        distance < Self::HALF
+    }
+}

@@ -1,0 +1,26 @@
+-- Laws of UTF-8 that a loop over the bytes cites, and the texts that 01 marks.
+use mathlib.Core.Path.{_≡_, refl}
+use mathlib.Core.Bool.{Bool, true, false}
+use mathlib.Core.List.{List, [], _∷_, map}
+use Prim.Native.Nat.{ℕ, _+_, _≤_, _<_}
+use native.Mathlib.Numerals.{add-one}
+use lib.ListN.{length, drop, getD, drop-of-length-le}
+use lib.Seq.{drop-cons}
+use Rattle.field.specs.Choice.{pick}
+use Rattle.text.specs.Utf8.{afterFirst, afterByte, isBoundary, utf8From, isUtf8}
+use Rattle.text.specs.declared.Expected.{Expected}
+
+-- one byte further
+pub utf8-step : (e : Expected) (s : List ℕ) (i : ℕ) → i < length s → utf8From e (drop i s) ≡ utf8From (afterByte e (getD s i 0)) (drop (i + 1) s)
+unfolding utf8From
+utf8-step e s i h = rw (add-one, drop-cons s i 0 h)
+
+pub utf8-end : (e : Expected) (s : List ℕ) (i : ℕ) → length s ≤ i → utf8From e (drop i s) ≡ isBoundary e
+unfolding utf8From
+utf8-end e s i h = rw (drop-of-length-le s h)
+
+-- "F4 8F BF BF is accepted. C0 80, ED A0 80 and F4 90 80 80 are refused. A zero byte is text."
+pub marked-texts : map isUtf8 ((0xF4 ∷ 0x8F ∷ 0xBF ∷ 0xBF ∷ []) ∷ (0xC0 ∷ 0x80 ∷ []) ∷ (0xED ∷ 0xA0 ∷ 0x80 ∷ []) ∷ (0xF4 ∷ 0x90 ∷ 0x80 ∷ 0x80 ∷ []) ∷ (0 ∷ []) ∷ [] ∷ [])
+    ≡ true ∷ false ∷ false ∷ false ∷ true ∷ true ∷ []
+unfolding isUtf8 utf8From afterByte afterFirst pick
+marked-texts = refl

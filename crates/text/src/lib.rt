@@ -1,0 +1,118 @@
+// Text: UTF-8 (RFC 3629), and a text behind its length.
+use field::INCOMPLETE;
+use field::NOT_UTF8;
+use field::Number;
+use field::Parsed;
+use field::TOO_LONG;
+ghost use mathlib.Core.Path.{_≡_};
+ghost use Rattle.text.specs.Utf8.{afterFirst, afterByte, isBoundary, isUtf8};
+ghost use Rattle.text.specs.Text.{parseText};
+
+// What may come next: a character or the end; a byte from the first to the second number, and then so many tail bytes more; nothing.
+pub enum Expected {
+    Boundary,
+    Tail(u8, u8, u8),
+    Invalid,
+}
+
+// What a character's first byte asks for.
+fn after_first(b: u8) -> Expected
+    ensures { λ r. ⌜ r ≡ afterFirst b ⌝ }
+{
+    if b <= 0x7F {
+        return Expected::Boundary;
+    }
+    if b <= 0xC1 {
+        return Expected::Invalid;
+    }
+    if b <= 0xDF {
+        return Expected::Tail(0x80, 0xBF, 0);
+    }
+    if b <= 0xE0 {
+        return Expected::Tail(0xA0, 0xBF, 1);
+    }
+    if b <= 0xEC {
+        return Expected::Tail(0x80, 0xBF, 1);
+    }
+    if b <= 0xED {
+        return Expected::Tail(0x80, 0x9F, 1);
+    }
+    if b <= 0xEF {
+        return Expected::Tail(0x80, 0xBF, 1);
+    }
+    if b <= 0xF0 {
+        return Expected::Tail(0x90, 0xBF, 2);
+    }
+    if b <= 0xF3 {
+        return Expected::Tail(0x80, 0xBF, 2);
+    }
+    if b <= 0xF4 {
+        return Expected::Tail(0x80, 0x8F, 2);
+    }
+    Expected::Invalid
+}
+
+fn after_byte(e: Expected, b: u8) -> Expected
+    ensures { λ r. ⌜ r ≡ afterByte e b ⌝ }
+{
+    match e {
+        Expected::Boundary => after_first(b),
+        Expected::Tail(low, high, more) => {
+            if b < low {
+                return Expected::Invalid;
+            }
+            if high < b {
+                return Expected::Invalid;
+            }
+            if more == 0 {
+                return Expected::Boundary;
+            }
+            Expected::Tail(0x80, 0xBF, more - 1)
+        }
+        Expected::Invalid => Expected::Invalid,
+    }
+}
+
+fn is_boundary(e: Expected) -> bool
+    ensures { λ r. ⌜ r ≡ isBoundary e ⌝ }
+{
+    match e {
+        Expected::Boundary => true,
+        Expected::Tail(_, _, _) => false,
+        Expected::Invalid => false,
+    }
+}
+
+// Whether all bytes together are UTF-8.
+pub fn is_utf8(s: &[u8]) -> bool
+    ensures { λ r. ⌜ r ≡ isUtf8 (now (s .entry)) ⌝ }
+{
+    let mut e = Expected::Boundary;
+    let mut i = 0;
+    while i < s.len() {
+        e = after_byte(e, s[i]);
+        i += 1;
+    }
+    is_boundary(e)
+}
+
+// A text behind its length, where `size_so_far` bytes came before it and all together may be `max_size`.
+pub fn read_text(s: &[u8], size_so_far: u16, max_size: u16) -> Parsed
+    ensures { λ r. ⌜ r ≡ parseText «max_size» «size_so_far» (now (s .entry)) ⌝ }
+{
+    let Number::There(n) = field::read_u16(s, 0) else {
+        return Parsed::Refused(INCOMPLETE, 0);
+    };
+    let end = 2 + (n as usize);
+    let size = (size_so_far as usize) + end;
+    if (max_size as usize) < size {
+        return Parsed::Refused(TOO_LONG, 0);
+    }
+    if s.len() < end {
+        return Parsed::Refused(INCOMPLETE, 2);
+    }
+    if is_utf8(&s[2..end]) {
+        return Parsed::Taken(end);
+    }
+    Parsed::Refused(NOT_UTF8, 2)
+}

@@ -1,0 +1,66 @@
+use mathlib.Core.Path.{_≡_, sym, _∙_}
+use Prim.Native.Nat.{_≤_}
+use native.Mathlib.Omega.{arith}
+use lib.ListN.{length, getD}
+use borrow.Author.Tests.{le-leb, lt-leb, not-true, not-false}
+use Rattle.field.specs.Choice.{pick}
+use Rattle.field.proofs.FieldLaws.{octet-there, octet-missing}
+use Rattle.value.specs.Value.{parseArray}
+use borrow.Author.Needs.{needs}
+use Rattle.value.proofs.read_array.Statement.{statement}
+use Rattle.value.proofs.read_array.Tie as tie
+use Rattle.value.proofs.read_array.Reads as reads
+use Rattle.value.proofs.read_array.Lts as lts
+use Rattle.field.proofs.read_u8.Reads as read-u8-reads
+use Rattle.value.proofs.count_fits.Reads as count-fits-reads
+use Rattle.value.proofs.read_elements.Reads as read-elements-reads
+
+there : (c : tie.After-count) → (1 ≤ length (c .before .before .before .before .args .s .now)) × (c .count .given .0 .0 ≡ getD (c .before .before .before .before .args .s .now) 0 0)
+there c = octet-there (c .before .before .before .before .args .s .now) 0 (c .count .given .0 .0) (sym (c .count .given .1) ∙ c .before .before .read-u8 .ensures)
+
+read-u8-requires : tie.Need-read-u8-requires
+read-u8-requires c κs = search needs
+
+enum-known-count : tie.Need-enum-known-count
+enum-known-count c = search needs
+
+enum-told : tie.Need-enum-told
+enum-told c = search needs
+
+returns : tie.Need-returns
+unfolding parseArray pick
+returns c =
+    let s = c .before .before .before .before .args .s .now in
+    let m = octet-missing s 0 (sym (c .enum-told .given .1) ∙ c .before .before .read-u8 .ensures) in
+    rw (lt-leb 1 (length s) (omega arith))
+
+count-fits-requires : tie.Need-count-fits-requires
+count-fits-requires c κs = search needs
+
+returns-2 : tie.Need-returns-2
+unfolding parseArray pick
+returns-2 c =
+    let h = there (c .before .before .before) in
+    rw (le-leb _ _ (h .0), ← (h .1), ← (c .before .count-fits .ensures), not-true (c .before .count-fits .result) (c .if1 .taken))
+
+read-elements-requires : tie.Need-read-elements-requires
+read-elements-requires c κs = there (c .before .before .before) .0
+
+returns-3 : tie.Need-returns-3
+unfolding parseArray pick
+returns-3 c =
+    let h = there (c .before .before .before .before) in
+    rw (le-leb _ _ (h .0), ← (h .1), ← (c .before .before .count-fits .ensures), not-false (c .before .before .count-fits .result) (c .before .if1 .left)) (c .read-elements .ensures)
+
+pub read-array-spec : {M : Type 1} → statement M
+read-array-spec =
+    tie.close
+    (tie.spec
+    read-u8-requires
+    enum-known-count
+    enum-told
+    returns
+    count-fits-requires
+    returns-2
+    read-elements-requires
+    returns-3)

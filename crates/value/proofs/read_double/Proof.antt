@@ -1,0 +1,18 @@
+use borrow.Author.Tests.{le-leb, lt-leb}
+use Rattle.field.specs.Choice.{pick}
+use Rattle.value.specs.Value.{parseDouble}
+use Rattle.value.proofs.read_double.Statement.{statement}
+use Rattle.value.proofs.read_double.Tie as tie
+use Rattle.value.proofs.read_double.Reads as reads
+use Rattle.value.proofs.read_double.Lts as lts
+
+returns : tie.Need-returns
+unfolding parseDouble pick
+returns c = rw (lt-leb _ _ (c .if1 .taken))
+
+returns-2 : tie.Need-returns-2
+unfolding parseDouble pick
+returns-2 c = rw (le-leb _ _ (c .if1 .left))
+
+pub read-double-spec : {M : Type 1} → statement M
+read-double-spec = tie.close (tie.spec returns returns-2)

@@ -1,0 +1,51 @@
+use Rattle.value.proofs.ValueLaws.{known-array}
+use mathlib.Core.Path.{_≡_, sym, _∙_}
+use Prim.Native.Nat.{_≤_}
+use native.Mathlib.Omega.{arith}
+use borrow.Author.Tests.{le-leb, lt-leb, leb-true, not-true, not-false}
+use Rattle.field.specs.Choice.{pick}
+use Rattle.value.specs.Value.{parseValue, knownType}
+use borrow.Author.Needs.{needs}
+use Rattle.value.proofs.read_value.Statement.{statement}
+use Rattle.value.proofs.read_value.Tie as tie
+use Rattle.value.proofs.read_value.Reads as reads
+use Rattle.value.proofs.read_value.Lts as lts
+use Rattle.value.proofs.known_type.Reads as known-type-reads
+use Rattle.value.proofs.read_array.Reads as read-array-reads
+use Rattle.value.proofs.read_element.Reads as read-element-reads
+
+read-element-requires : tie.Need-read-element-requires
+read-element-requires c κs = search needs
+
+returns : tie.Need-returns
+unfolding parseValue pick
+returns c = rw (le-leb _ _ (c .before .if1 .taken)) (c .read-element .ensures)
+
+known-type-requires : tie.Need-known-type-requires
+known-type-requires c κs = search needs
+
+returns-2 : tie.Need-returns-2
+unfolding parseValue pick
+returns-2 c = rw (lt-leb _ _ (c .before .before .if1 .left), ← (c .before .known-type .ensures), not-true (c .before .known-type .result) (c .if2 .taken))
+
+sub-read-array : tie.Need-sub-read-array
+sub-read-array c = known-array (c .before .before .before .before .args .t) (c .before .before .if1 .left) (sym (c .before .known-type .ensures) ∙ not-false (c .before .known-type .result) (c .if2 .left))
+
+read-array-requires : tie.Need-read-array-requires
+read-array-requires c κs = search needs
+
+returns-3 : tie.Need-returns-3
+unfolding parseValue pick
+returns-3 c = rw (lt-leb _ _ (c .before .before .before .if1 .left), ← (c .before .before .known-type .ensures), not-false (c .before .before .known-type .result) (c .before .if2 .left)) (c .read-array .ensures)
+
+pub read-value-spec : {M : Type 1} → statement M
+read-value-spec =
+    tie.close
+    (tie.spec
+    read-element-requires
+    returns
+    known-type-requires
+    returns-2
+    sub-read-array
+    read-array-requires
+    returns-3)
