@@ -2,3 +2,4 @@ pub mod ChoiceLaws
 pub mod OctetsLaws
 pub mod OverwriteLaws
 pub mod FieldLaws
+pub mod EqualLaws

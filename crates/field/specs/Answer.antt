@@ -1,12 +1,25 @@
 -- "Numbers a call answers with"
 use Prim.Native.Nat.{ℕ}
 
+-- "done"
 abbrev pub done : ℕ
 done = 0
+
+-- "ignored: the message is taken, nothing changes, no output, no recipients"
+abbrev pub ignored : ℕ
+ignored = 16
 
 -- "message or value not complete"
 abbrev pub incomplete : ℕ
 incomplete = 1
+
+-- "connection number above 15"
+abbrev pub connectionTooHigh : ℕ
+connectionTooHigh = 2
+
+-- "connection state does not allow this"
+abbrev pub wrongState : ℕ
+wrongState = 3
 
 -- "message kind unknown, or not for this end"
 abbrev pub unknownKind : ℕ
@@ -36,6 +49,18 @@ notUtf8 = 9
 abbrev pub tooLong : ℕ
 tooLong = 10
 
+-- "table full"
+abbrev pub tableFull : ℕ
+tableFull = 11
+
 -- "output too short"
 abbrev pub outputTooShort : ℕ
 outputTooShort = 12
+
+-- "name already there"
+abbrev pub nameTaken : ℕ
+nameTaken = 13
+
+-- "lent table unsound or too small"
+abbrev pub unsound : ℕ
+unsound = 14

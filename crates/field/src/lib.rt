@@ -3,17 +3,25 @@ ghost use mathlib.Core.Path.{_≡_};
 ghost use mathlib.Core.List.{_∷_, []};
 ghost use Prim.Native.Nat.{_+_, _^_, _≤_, _<_};
 ghost use lib.ListN.{length};
-ghost use Rattle.field.specs.Octets.{encode16, overwriteAt};
+ghost use Rattle.field.specs.Octets.{encode16, overwriteAt, bytesEqual};
 ghost use Rattle.field.specs.Field.{octetAt, numberAt, movedBy, placeOf};
 
-// The numbers that a call answers with (01's table). The names are those of specs/Answer.antt.
+// The numbers that a call answers with (01's table). specs/Answer.antt has each with its meaning.
 pub const DONE: u8 = 0;
 
+pub const IGNORED: u8 = 16;
+
 pub const INCOMPLETE: u8 = 1;
+
+pub const CONNECTION_TOO_HIGH: u8 = 2;
+
+pub const WRONG_STATE: u8 = 3;
 
 pub const UNKNOWN_KIND: u8 = 4;
 
 pub const WRONG_ID: u8 = 5;
+
+pub const UNKNOWN_ID: u8 = 6;
 
 pub const UNKNOWN_TYPE: u8 = 7;
 
@@ -23,7 +31,13 @@ pub const NOT_UTF8: u8 = 9;
 
 pub const TOO_LONG: u8 = 10;
 
+pub const TABLE_FULL: u8 = 11;
+
 pub const OUTPUT_TOO_SHORT: u8 = 12;
+
+pub const NAME_TAKEN: u8 = 13;
+
+pub const UNSOUND: u8 = 14;
 
 // What a reader answers: a refusal's number and the place of the first byte of the field that failed, or how many bytes it took.
 pub enum Parsed {
@@ -111,4 +125,21 @@ pub fn copy_into(out: &mut [u8], at: usize, src: &[u8])
         out[at + j] = src[j];
         j += 1;
     }
+}
+
+// Whether two runs of bytes are equal.
+pub fn same_bytes(a: &[u8], b: &[u8]) -> bool
+    ensures { λ r. ⌜ r ≡ bytesEqual (now (a .entry)) (now (b .entry)) ⌝ }
+{
+    if a.len() != b.len() {
+        return false;
+    }
+    let mut k = 0;
+    while k < a.len() {
+        if a[k] != b[k] {
+            return false;
+        }
+        k += 1;
+    }
+    true
 }

@@ -1,1 +1,3 @@
 pub mod ReaderLaws
+pub mod ReadBack
+pub mod TakenLaws

@@ -29,6 +29,32 @@ known-array t h k = leb-true 0x10 t (left (leb 0x10 t) (leb t 0x12) (rw (lt-leb 
     left true b e = refl
     left false b e = absurd (false≢true e)
 
+element-known : (t : ℕ) → leb t 2 ≡ true → knownType t ≡ true
+unfolding knownType
+element-known t h = rw h
+
+-- a value is taken of a known type only
+data TakenOf (t : ℕ) : Parsed → Type 0 where
+  refused : {number place : ℕ} → TakenOf t (Refused number place)
+  taken : {n : ℕ} → knownType t ≡ true → TakenOf t (Taken n)
+
+pub value-known : (t : ℕ) (s : List ℕ) (n : ℕ) → parseValue t s ≡ Taken n → knownType t ≡ true
+unfolding parseValue
+value-known t s n e = known (Taken n) (rw e at of-known) refl
+  where
+    any : knownType t ≡ true → (r : Parsed) → TakenOf t r
+    any k (Refused number place) = TakenOf.refused
+    any k (Taken n) = TakenOf.taken k
+
+    of-known : TakenOf t (parseValue t s)
+    of-known =
+        by-test (λ (read : List ℕ → Parsed). TakenOf t (read s)) (leb t 2) _ _ (λ h. any (element-known t h) _) (λ _.
+        by-test (λ (read : List ℕ → Parsed). TakenOf t (read s)) (knownType t) _ _ (λ k. any k _) (λ _. TakenOf.refused))
+
+    known : (r : Parsed) → TakenOf t r → r ≡ Taken n → knownType t ≡ true
+    known (Refused number place) f q = let z : _≡_ {A = ℕ} 0 1 = cc in absurd (omega arith)
+    known (Taken m) (TakenOf.taken k) q = k
+
 -- ---- an array
 
 array-reads : (element : ℕ) → AllReads maxValueSize (parseArray element)

@@ -1,13 +1,11 @@
 -- "The message writer takes fields and checks kind (4), name, type, value, room (12); fields that the kind lacks are not looked at."
 use Prim.Native.Nat.{ℕ, _≤_}
-use mathlib.Core.Bool.{Bool}
-use mathlib.Core.List.{List}
+use mathlib.Core.List.{List, []}
 use lib.ListN.{length}
 use lib.Dec.{leb, eqb}
 use Rattle.field.specs.Answer.{unknownKind, notUtf8, tooLong, outputTooShort}
 use Rattle.field.specs.Choice.{pick}
 use Rattle.field.specs.Octets.{overwriteAt}
-use Rattle.field.specs.Field.{andThen}
 use Rattle.field.specs.declared.Parsed.{Parsed}
 use Rattle.field.specs.declared.Parsed.the-variants.{Refused, Taken}
 use Rattle.text.specs.Utf8.{isUtf8}
@@ -15,6 +13,8 @@ use Rattle.value.specs.Value.{parseLone}
 use Rattle.message.specs.Layout.{Entry, Message, keepAlive, hello, unsupported, helloComplete, assignment, update, layout, maxNameLength, keepAliveKind, helloKind, unsupportedKind, helloCompleteKind, assignmentKind, updateKind}
 use Rattle.writer.specs.declared.Encoded.{Encoded}
 use Rattle.writer.specs.declared.Encoded.the-variants as E
+use Rattle.writer.specs.declared.Needed.{Needed}
+use Rattle.writer.specs.declared.Needed.the-variants as N
 
 -- the fields that are given; "An update's type is given to it; name and value are lent as for a local call"
 pub record Fields : Type 0 where
@@ -39,6 +39,14 @@ abbrev pub checkedBy : Parsed → Checked → Checked
 checkedBy (Refused number place) next = refused number
 checkedBy (Taken n) next = next
 
+-- name (10, then 9), type (7), value
+unfoldable pub checkAssignment : ℕ → Entry → Checked
+checkAssignment id e = checkedBy (checkName (e .name)) (checkedBy (parseLone (e .type) (e .value)) (allowed (assignment id e)))
+
+-- type (7), value
+unfoldable pub checkUpdate : (id number type : ℕ) → List ℕ → Checked
+checkUpdate id number type value = checkedBy (parseLone type value) (allowed (update id number value))
+
 unfoldable pub check : Fields → Checked
 check f =
     pick (eqb (f .kind) keepAliveKind) (allowed keepAlive)
@@ -46,11 +54,21 @@ check f =
     (pick (eqb (f .kind) unsupportedKind) (allowed (unsupported (f .revision)))
     (pick (eqb (f .kind) helloCompleteKind) (allowed helloComplete)
     (pick (eqb (f .kind) assignmentKind)
-    (checkedBy (checkName (f .name)) (checkedBy (parseLone (f .type) (f .value))
-    (allowed (assignment (f .id) (record { name = f .name; type = f .type; number = f .number; value = f .value })))))
-    (pick (eqb (f .kind) updateKind)
-    (checkedBy (parseLone (f .type) (f .value)) (allowed (update (f .id) (f .number) (f .value))))
-    (refused unknownKind))))))
+    (checkAssignment (f .id) (record { name = f .name; type = f .type; number = f .number; value = f .value }))
+    (pick (eqb (f .kind) updateKind) (checkUpdate (f .id) (f .number) (f .type) (f .value)) (refused unknownKind))))))
+
+-- how many bytes the message needs, or the refusal
+abbrev pub neededFor : Checked → Needed
+neededFor (refused number) = N.Refused number
+neededFor (allowed m) = N.Bytes (length (layout m))
+
+abbrev pub bytesOf : Checked → List ℕ
+bytesOf (refused number) = []
+bytesOf (allowed m) = layout m
+
+-- the fields are allowed, and their message has room
+pub data Ready (room : ℕ) : Checked → Type 0 where
+  ready : {m : Message} → length (layout m) ≤ room → Ready room (allowed m)
 
 -- what is answered: the bytes sent, or the refusal; 12 "exactly when the output is shorter than what would be sent"
 abbrev pub answerOf : Checked → List ℕ → Encoded

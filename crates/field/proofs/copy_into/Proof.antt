@@ -8,8 +8,6 @@ use Rattle.field.specs.Octets.{overwriteAt}
 use Rattle.field.proofs.OverwriteLaws.{overwrite-more}
 use Rattle.field.proofs.copy_into.Statement.{statement}
 use Rattle.field.proofs.copy_into.Tie as tie
-use Rattle.field.proofs.copy_into.Reads as reads
-use Rattle.field.proofs.copy_into.Lts as lts
 
 abbrev Inv-loop : tie.InvT-loop
 Inv-loop out₀ at src j₀ out j = (j ≤ length src) × (length out ≡ length out₀) × (out ≡ overwriteAt out₀ at (take j src))

@@ -2,8 +2,6 @@ use native.Mathlib.Omega.{arith}
 use borrow.Author.Needs.{needs}
 use Rattle.field.proofs.moved.Statement.{statement}
 use Rattle.field.proofs.moved.Tie as tie
-use Rattle.field.proofs.moved.Reads as reads
-use Rattle.field.proofs.moved.Lts as lts
 
 enum-known-p : tie.Need-enum-known-p
 enum-known-p c = search needs

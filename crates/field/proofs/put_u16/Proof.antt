@@ -5,8 +5,6 @@ use Rattle.field.specs.Octets.{encode16, overwriteAt}
 use borrow.Author.Needs.{needs}
 use Rattle.field.proofs.put_u16.Statement.{statement}
 use Rattle.field.proofs.put_u16.Tie as tie
-use Rattle.field.proofs.put_u16.Reads as reads
-use Rattle.field.proofs.put_u16.Lts as lts
 
 cast-out : tie.Need-cast-out
 cast-out c = search needs

@@ -3,8 +3,6 @@ use Rattle.field.specs.Octets.{overwriteAt}
 use borrow.Author.Needs.{needs}
 use Rattle.field.proofs.put_u8.Statement.{statement}
 use Rattle.field.proofs.put_u8.Tie as tie
-use Rattle.field.proofs.put_u8.Reads as reads
-use Rattle.field.proofs.put_u8.Lts as lts
 
 slice-write-out : tie.Need-slice-write-out
 slice-write-out c = search needs

@@ -8,9 +8,6 @@ use Rattle.field.proofs.OctetsLaws.{decode-at}
 use borrow.Author.Needs.{needs}
 use Rattle.field.proofs.read_u16.Statement.{statement}
 use Rattle.field.proofs.read_u16.Tie as tie
-use Rattle.field.proofs.read_u16.Reads as reads
-use Rattle.field.proofs.read_u16.Lts as lts
-use Rattle.field.proofs.wide.Reads as wide-reads
 
 returns : tie.Need-returns
 unfolding numberAt pick

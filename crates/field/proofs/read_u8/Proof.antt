@@ -7,8 +7,6 @@ use Rattle.field.specs.Field.{octetAt}
 use borrow.Author.Needs.{needs}
 use Rattle.field.proofs.read_u8.Statement.{statement}
 use Rattle.field.proofs.read_u8.Tie as tie
-use Rattle.field.proofs.read_u8.Reads as reads
-use Rattle.field.proofs.read_u8.Lts as lts
 
 returns : tie.Need-returns
 unfolding octetAt pick

@@ -1,8 +1,6 @@
 use borrow.Author.Needs.{needs}
 use Rattle.message.proofs.decoded_assignment.Statement.{statement}
 use Rattle.message.proofs.decoded_assignment.Tie as tie
-use Rattle.message.proofs.decoded_assignment.Reads as reads
-use Rattle.message.proofs.decoded_assignment.Lts as lts
 
 enum-known-a : tie.Need-enum-known-a
 enum-known-a c = search needs

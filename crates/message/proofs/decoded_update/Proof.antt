@@ -1,8 +1,6 @@
 use borrow.Author.Needs.{needs}
 use Rattle.message.proofs.decoded_update.Statement.{statement}
 use Rattle.message.proofs.decoded_update.Tie as tie
-use Rattle.message.proofs.decoded_update.Reads as reads
-use Rattle.message.proofs.decoded_update.Lts as lts
 
 enum-known-u : tie.Need-enum-known-u
 enum-known-u c = search needs

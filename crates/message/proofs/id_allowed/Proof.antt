@@ -1,8 +1,6 @@
 use borrow.Author.Needs.{needs}
 use Rattle.message.proofs.id_allowed.Statement.{statement}
 use Rattle.message.proofs.id_allowed.Tie as tie
-use Rattle.message.proofs.id_allowed.Reads as reads
-use Rattle.message.proofs.id_allowed.Lts as lts
 
 enum-told : tie.Need-enum-told
 enum-told c = search needs

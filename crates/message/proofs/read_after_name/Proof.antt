@@ -12,14 +12,6 @@ use Rattle.field.proofs.FieldLaws.{octet-there, octet-missing, number-there, nu
 use borrow.Author.Needs.{needs}
 use Rattle.message.proofs.read_after_name.Statement.{statement}
 use Rattle.message.proofs.read_after_name.Tie as tie
-use Rattle.message.proofs.read_after_name.Reads as reads
-use Rattle.message.proofs.read_after_name.Lts as lts
-use Rattle.field.proofs.read_u16.Reads as read-u16-reads
-use Rattle.field.proofs.read_u8.Reads as read-u8-reads
-use Rattle.message.proofs.id_allowed.Reads as id-allowed-reads
-use Rattle.message.proofs.read_value_at.Reads as read-value-at-reads
-use Rattle.message.proofs.refused_assignment.Reads as refused-assignment-reads
-use Rattle.value.proofs.known_type.Reads as known-type-reads
 
 -- ---- each field that is there
 

@@ -5,11 +5,6 @@ use Rattle.message.proofs.ReaderLaws.{name-taken}
 use borrow.Author.Needs.{needs}
 use Rattle.message.proofs.read_assignment.Statement.{statement}
 use Rattle.message.proofs.read_assignment.Tie as tie
-use Rattle.message.proofs.read_assignment.Reads as reads
-use Rattle.message.proofs.read_assignment.Lts as lts
-use Rattle.message.proofs.read_after_name.Reads as read-after-name-reads
-use Rattle.message.proofs.read_name.Reads as read-name-reads
-use Rattle.message.proofs.refused_assignment.Reads as refused-assignment-reads
 
 read-name-requires : tie.Need-read-name-requires
 read-name-requires c κs = search needs

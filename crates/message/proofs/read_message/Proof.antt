@@ -9,14 +9,6 @@ use Rattle.message.specs.Reader.{parseMessage}
 use borrow.Author.Needs.{needs}
 use Rattle.message.proofs.read_message.Statement.{statement}
 use Rattle.message.proofs.read_message.Tie as tie
-use Rattle.message.proofs.read_message.Reads as reads
-use Rattle.message.proofs.read_message.Lts as lts
-use Rattle.field.proofs.read_u8.Reads as read-u8-reads
-use Rattle.message.proofs.decoded_assignment.Reads as decoded-assignment-reads
-use Rattle.message.proofs.decoded_update.Reads as decoded-update-reads
-use Rattle.message.proofs.read_assignment.Reads as read-assignment-reads
-use Rattle.message.proofs.read_revision.Reads as read-revision-reads
-use Rattle.message.proofs.read_update.Reads as read-update-reads
 
 kind-there : (c : tie.After-kind) → (1 ≤ length (c .before .before .before .before .args .m .now)) × (c .kind .given .0 .0 ≡ getD (c .before .before .before .before .args .m .now) 0 0)
 kind-there c = octet-there (c .before .before .before .before .args .m .now) 0 (c .kind .given .0 .0) (sym (c .kind .given .1) ∙ c .before .before .read-u8 .ensures)

@@ -8,10 +8,6 @@ use Rattle.message.specs.Reader.{parseName}
 use borrow.Author.Needs.{needs}
 use Rattle.message.proofs.read_name.Statement.{statement}
 use Rattle.message.proofs.read_name.Tie as tie
-use Rattle.message.proofs.read_name.Reads as reads
-use Rattle.message.proofs.read_name.Lts as lts
-use Rattle.field.proofs.moved.Reads as moved-reads
-use Rattle.text.proofs.read_text.Reads as read-text-reads
 
 name-is : (c : tie.After-read-text) → c .read-text .result ≡ parseText 66 0 (drop 1 (c .before .before .before .args .m .now))
 name-is c = c .read-text .ensures ∙ ap (parseText 66 0) (rest-all 1 (c .before .before .before .args .m .now))

@@ -10,9 +10,6 @@ use Rattle.message.specs.Reader.{parseRevision}
 use borrow.Author.Needs.{needs}
 use Rattle.message.proofs.read_revision.Statement.{statement}
 use Rattle.message.proofs.read_revision.Tie as tie
-use Rattle.message.proofs.read_revision.Reads as reads
-use Rattle.message.proofs.read_revision.Lts as lts
-use Rattle.field.proofs.read_u16.Reads as read-u16-reads
 
 there : (c : tie.After-revision) → (3 ≤ length (c .before .before .before .before .args .m .now)) × (c .revision .given .0 .0 ≡ decode16 (drop 1 (c .before .before .before .before .args .m .now)))
 there c = number-there (c .before .before .before .before .args .m .now) 1 (c .revision .given .0 .0) (sym (c .revision .given .1) ∙ c .before .before .read-u16 .ensures)

@@ -10,11 +10,6 @@ use Rattle.message.specs.Reader.{parseUpdate}
 use borrow.Author.Needs.{needs}
 use Rattle.message.proofs.read_update.Statement.{statement}
 use Rattle.message.proofs.read_update.Tie as tie
-use Rattle.message.proofs.read_update.Reads as reads
-use Rattle.message.proofs.read_update.Lts as lts
-use Rattle.field.proofs.read_u16.Reads as read-u16-reads
-use Rattle.message.proofs.read_value_at.Reads as read-value-at-reads
-use Rattle.message.proofs.refused_update.Reads as refused-update-reads
 
 id-there : (c : tie.After-id) → (3 ≤ length (c .before .before .before .before .args .m .now)) × (c .id .given .0 .0 ≡ decode16 (drop 1 (c .before .before .before .before .args .m .now)))
 id-there c = number-there (c .before .before .before .before .args .m .now) 1 (c .id .given .0 .0) (sym (c .id .given .1) ∙ c .before .before .read-u16 .ensures)

@@ -8,10 +8,6 @@ use Rattle.message.specs.Reader.{parseValueAt}
 use borrow.Author.Needs.{needs}
 use Rattle.message.proofs.read_value_at.Statement.{statement}
 use Rattle.message.proofs.read_value_at.Tie as tie
-use Rattle.message.proofs.read_value_at.Reads as reads
-use Rattle.message.proofs.read_value_at.Lts as lts
-use Rattle.field.proofs.moved.Reads as moved-reads
-use Rattle.value.proofs.read_value.Reads as read-value-reads
 
 value-is : (c : tie.After-read-value) → c .read-value .result ≡ parseValue (c .before .before .before .args .t) (drop (c .before .before .before .args .at) (c .before .before .before .args .m .now))
 value-is c =

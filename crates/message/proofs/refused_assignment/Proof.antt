@@ -2,8 +2,6 @@ use mathlib.Core.Path.{_≡_}
 use borrow.Author.Needs.{needs}
 use Rattle.message.proofs.refused_assignment.Statement.{statement}
 use Rattle.message.proofs.refused_assignment.Tie as tie
-use Rattle.message.proofs.refused_assignment.Reads as reads
-use Rattle.message.proofs.refused_assignment.Lts as lts
 
 enum-known-p : tie.Need-enum-known-p
 enum-known-p c = search needs

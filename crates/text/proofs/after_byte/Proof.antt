@@ -4,9 +4,6 @@ use Rattle.text.specs.Utf8.{afterByte}
 use borrow.Author.Needs.{needs}
 use Rattle.text.proofs.after_byte.Statement.{statement}
 use Rattle.text.proofs.after_byte.Tie as tie
-use Rattle.text.proofs.after_byte.Reads as reads
-use Rattle.text.proofs.after_byte.Lts as lts
-use Rattle.text.proofs.after_first.Reads as after-first-reads
 
 enum-told : tie.Need-enum-told
 enum-told c = search needs

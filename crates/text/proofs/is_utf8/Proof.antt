@@ -7,10 +7,6 @@ use Rattle.text.specs.Utf8.{utf8From, isUtf8}
 use Rattle.text.proofs.Utf8Laws.{utf8-step, utf8-end}
 use Rattle.text.proofs.is_utf8.Statement.{statement}
 use Rattle.text.proofs.is_utf8.Tie as tie
-use Rattle.text.proofs.is_utf8.Reads as reads
-use Rattle.text.proofs.is_utf8.Lts as lts
-use Rattle.text.proofs.after_byte.Reads as after-byte-reads
-use Rattle.text.proofs.is_boundary.Reads as is-boundary-reads
 
 abbrev Inv-loop : tie.InvT-loop
 Inv-loop s e₀ i₀ e i = (i ≤ length s) × (utf8From e (drop i s) ≡ isUtf8 s)

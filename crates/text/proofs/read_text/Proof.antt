@@ -11,10 +11,6 @@ use Rattle.text.proofs.TextLaws.{after-prefix}
 use borrow.Author.Needs.{needs}
 use Rattle.text.proofs.read_text.Statement.{statement}
 use Rattle.text.proofs.read_text.Tie as tie
-use Rattle.text.proofs.read_text.Reads as reads
-use Rattle.text.proofs.read_text.Lts as lts
-use Rattle.field.proofs.read_u16.Reads as read-u16-reads
-use Rattle.text.proofs.is_utf8.Reads as is-utf8-reads
 
 -- the prefix is there
 whole : (n : ℕ) → 2 + n - 2 ≡ n

@@ -6,8 +6,6 @@ use Rattle.value.specs.Value.{countFits}
 use borrow.Author.Needs.{needs}
 use Rattle.value.proofs.count_fits.Statement.{statement}
 use Rattle.value.proofs.count_fits.Tie as tie
-use Rattle.value.proofs.count_fits.Reads as reads
-use Rattle.value.proofs.count_fits.Lts as lts
 
 returns : tie.Need-returns
 unfolding countFits pick

@@ -2,8 +2,6 @@ use borrow.Author.Tests.{le-leb, lt-leb}
 use Rattle.value.specs.Value.{knownType}
 use Rattle.value.proofs.known_type.Statement.{statement}
 use Rattle.value.proofs.known_type.Tie as tie
-use Rattle.value.proofs.known_type.Reads as reads
-use Rattle.value.proofs.known_type.Lts as lts
 
 returns : tie.Need-returns
 unfolding knownType

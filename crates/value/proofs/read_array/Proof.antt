@@ -9,11 +9,6 @@ use Rattle.value.specs.Value.{parseArray}
 use borrow.Author.Needs.{needs}
 use Rattle.value.proofs.read_array.Statement.{statement}
 use Rattle.value.proofs.read_array.Tie as tie
-use Rattle.value.proofs.read_array.Reads as reads
-use Rattle.value.proofs.read_array.Lts as lts
-use Rattle.field.proofs.read_u8.Reads as read-u8-reads
-use Rattle.value.proofs.count_fits.Reads as count-fits-reads
-use Rattle.value.proofs.read_elements.Reads as read-elements-reads
 
 there : (c : tie.After-count) → (1 ≤ length (c .before .before .before .before .args .s .now)) × (c .count .given .0 .0 ≡ getD (c .before .before .before .before .args .s .now) 0 0)
 there c = octet-there (c .before .before .before .before .args .s .now) 0 (c .count .given .0 .0) (sym (c .count .given .1) ∙ c .before .before .read-u8 .ensures)

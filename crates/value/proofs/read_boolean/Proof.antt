@@ -9,9 +9,6 @@ use Rattle.value.specs.Value.{parseBoolean}
 use borrow.Author.Needs.{needs}
 use Rattle.value.proofs.read_boolean.Statement.{statement}
 use Rattle.value.proofs.read_boolean.Tie as tie
-use Rattle.value.proofs.read_boolean.Reads as reads
-use Rattle.value.proofs.read_boolean.Lts as lts
-use Rattle.field.proofs.read_u8.Reads as read-u8-reads
 
 there : (c : tie.After-b) → (1 ≤ length (c .before .before .before .before .args .s .now)) × (c .b .given .0 .0 ≡ getD (c .before .before .before .before .args .s .now) 0 0)
 there c = octet-there (c .before .before .before .before .args .s .now) 0 (c .b .given .0 .0) (sym (c .b .given .1) ∙ c .before .before .read-u8 .ensures)

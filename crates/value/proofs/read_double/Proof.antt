@@ -3,8 +3,6 @@ use Rattle.field.specs.Choice.{pick}
 use Rattle.value.specs.Value.{parseDouble}
 use Rattle.value.proofs.read_double.Statement.{statement}
 use Rattle.value.proofs.read_double.Tie as tie
-use Rattle.value.proofs.read_double.Reads as reads
-use Rattle.value.proofs.read_double.Lts as lts
 
 returns : tie.Need-returns
 unfolding parseDouble pick

@@ -4,11 +4,6 @@ use Rattle.value.specs.Value.{parseElement}
 use borrow.Author.Needs.{needs}
 use Rattle.value.proofs.read_element.Statement.{statement}
 use Rattle.value.proofs.read_element.Tie as tie
-use Rattle.value.proofs.read_element.Reads as reads
-use Rattle.value.proofs.read_element.Lts as lts
-use Rattle.text.proofs.read_text.Reads as read-text-reads
-use Rattle.value.proofs.read_boolean.Reads as read-boolean-reads
-use Rattle.value.proofs.read_double.Reads as read-double-reads
 
 read-boolean-requires : tie.Need-read-boolean-requires
 read-boolean-requires c κs = search needs

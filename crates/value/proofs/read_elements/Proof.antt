@@ -10,10 +10,6 @@ use Rattle.value.specs.Value.{parseElement, elements}
 use Rattle.value.proofs.ElementLaws.{reads-taken, reads-refused, element-reads, elements-step, elements-stop, elements-none}
 use Rattle.value.proofs.read_elements.Statement.{statement}
 use Rattle.value.proofs.read_elements.Tie as tie
-use Rattle.value.proofs.read_elements.Reads as reads
-use Rattle.value.proofs.read_elements.Lts as lts
-use Rattle.field.proofs.moved.Reads as moved-reads
-use Rattle.value.proofs.read_element.Reads as read-element-reads
 
 abbrev Inv-loop : tie.InvT-loop
 Inv-loop element count s at₀ left₀ at left =

@@ -5,9 +5,6 @@ use Rattle.value.specs.Value.{parseLone}
 use borrow.Author.Needs.{needs}
 use Rattle.value.proofs.read_lone.Statement.{statement}
 use Rattle.value.proofs.read_lone.Tie as tie
-use Rattle.value.proofs.read_lone.Reads as reads
-use Rattle.value.proofs.read_lone.Lts as lts
-use Rattle.value.proofs.read_value.Reads as read-value-reads
 
 read-value-requires : tie.Need-read-value-requires
 read-value-requires c κs = search needs

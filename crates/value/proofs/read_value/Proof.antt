@@ -8,11 +8,6 @@ use Rattle.value.specs.Value.{parseValue, knownType}
 use borrow.Author.Needs.{needs}
 use Rattle.value.proofs.read_value.Statement.{statement}
 use Rattle.value.proofs.read_value.Tie as tie
-use Rattle.value.proofs.read_value.Reads as reads
-use Rattle.value.proofs.read_value.Lts as lts
-use Rattle.value.proofs.known_type.Reads as known-type-reads
-use Rattle.value.proofs.read_array.Reads as read-array-reads
-use Rattle.value.proofs.read_element.Reads as read-element-reads
 
 read-element-requires : tie.Need-read-element-requires
 read-element-requires c κs = search needs

@@ -1,0 +1,125 @@
+-- What is known of an assignment or an update that was read: its bytes are there, and its name and value obey the rules.
+use mathlib.Core.Path.{_≡_, refl}
+use mathlib.Core.Bool.{Bool, true}
+use mathlib.Core.List.{List}
+use Prim.Native.Nat.{ℕ, _+_, _-_, _≤_}
+use native.Mathlib.Omega.{arith}
+use lib.ListN.{length, take, drop, length-take, length-drop}
+use lib.Seq.{drop-drop}
+use borrow.Author.Tests.{leb-true}
+use Rattle.field.specs.Octets.{decode16}
+use Rattle.field.specs.Field.{movedBy, andThen}
+use Rattle.field.specs.declared.Parsed.{Parsed}
+use Rattle.field.specs.declared.Parsed.the-variants.{Refused, Taken}
+use Rattle.field.proofs.ChoiceLaws.{by-test}
+use Rattle.text.specs.Utf8.{isUtf8}
+use Rattle.text.specs.Text.{parseText}
+use Rattle.text.proofs.TextLaws.{TextIs, text-is}
+use Rattle.value.specs.Value.{parseValue, IsValue}
+use Rattle.value.proofs.ValueLaws.{value-fits, value-whole}
+use Rattle.message.specs.Layout.{Entry, WellFormed}
+use Rattle.message.specs.Reader.{parseName, parseValueAt, parseAfterName, parseAssignment, parseUpdate}
+use Rattle.message.specs.declared.AssignmentRead.{AssignmentRead}
+use Rattle.message.specs.declared.AssignmentRead.the-variants as A
+use Rattle.message.specs.declared.UpdateRead.{UpdateRead}
+use Rattle.message.specs.declared.UpdateRead.the-variants as U
+
+-- ---- an assignment
+
+-- the entry that an assignment's bytes hold, with a number
+abbrev pub cutEntry : List ℕ → (nameLength type number valueLength : ℕ) → Entry
+cutEntry m nameLength type number valueLength =
+    record { name = take nameLength (drop 3 m); type = type; number = number; value = take valueLength (drop (8 + nameLength) m) }
+
+pub data AssignmentIs (allowed : ℕ → Bool) (m : List ℕ) : AssignmentRead → Type 0 where
+  refused : {number place : ℕ} → AssignmentIs allowed m (A.Refused number place)
+  taken : {n t id q v : ℕ} → allowed id ≡ true → 8 + n + v ≤ length m → ((number : ℕ) → WellFormed (cutEntry m n t number v))
+      → AssignmentIs allowed m (A.Assignment n t id q v)
+
+-- a name of n bytes behind the kind
+record NameAt (m : List ℕ) (n : ℕ) : Type 0 where
+  name-fits : n ≤ 64
+  name-text : isUtf8 (take n (drop 3 m)) ≡ true
+
+value-is : (allowed : ℕ → Bool) (m : List ℕ) (n t id q : ℕ) → NameAt m n → allowed id ≡ true → 3 + n + 5 ≤ length m
+    → AssignmentIs allowed m (andThen A.Refused (parseValueAt t (3 + n + 5) m) (λ v. A.Assignment n t id q v))
+unfolding parseValueAt
+value-is allowed m n t id q name a there = go (parseValue t (drop (3 + n + 5) m)) refl
+  where
+    go : (r : Parsed) → parseValue t (drop (3 + n + 5) m) ≡ r
+        → AssignmentIs allowed m (andThen A.Refused (movedBy (3 + n + 5) r) (λ v. A.Assignment n t id q v))
+    go (Refused k p) e = refused
+    go (Taken v) e =
+        let eight : 3 + n + 5 ≡ 8 + n = omega arith in
+        let f : parseValue t (drop (8 + n) m) ≡ Taken v = rw eight at e in
+        let all-there : 8 + n + v ≤ length m = omega (arith, value-fits t (drop (8 + n) m) v f, length-drop (8 + n) m) in
+        taken {t = t} a all-there (λ number.
+        record {
+          name-fits = omega (arith, length-take n (drop 3 m), name .name-fits);
+          name-text = name .name-text;
+          value-whole = value-whole t (drop (8 + n) m) v f;
+        })
+
+after-name-is : (allowed : ℕ → Bool) (m : List ℕ) (n : ℕ) → NameAt m n → AssignmentIs allowed m (parseAfterName allowed (3 + n) m)
+unfolding parseAfterName
+after-name-is allowed m n name =
+    let n-is : 3 + n - 3 ≡ n = omega arith in
+    rw n-is
+    (by-test P _ _ _ (λ _.
+    by-test P _ _ _ (λ _.
+    by-test P _ _ _ (λ _.
+    by-test P _ _ _ (λ a.
+    by-test P _ _ _ (λ h. value-is allowed m n _ _ _ name a (leb-true _ _ h))
+    (λ _. refused)) (λ _. refused)) (λ _. refused)) (λ _. refused)) (λ _. refused))
+  where
+    P : AssignmentRead → Type 0
+    P = AssignmentIs allowed m
+
+pub assignment-is : (allowed : ℕ → Bool) (m : List ℕ) → AssignmentIs allowed m (parseAssignment allowed m)
+unfolding parseAssignment parseName
+assignment-is allowed m = go (parseText 66 0 (drop 1 m)) (text-is 66 0 (drop 1 m))
+  where
+    go : (r : Parsed) → TextIs 66 0 (drop 1 m) r → AssignmentIs allowed m (andThen A.Refused (movedBy 1 r) (λ size. parseAfterName allowed (1 + size) m))
+    go (Refused k p) f = refused
+    go (Taken k) (TextIs.taken e l h u f) =
+        let n = decode16 (drop 1 m) in
+        let place : 1 + k ≡ 3 + n = omega arith in
+        let name : isUtf8 (take n (drop 3 m)) ≡ true = rw (drop-drop 2 1 m) at u in
+        rw place
+        (after-name-is allowed m n (record { name-fits = omega arith; name-text = name }))
+
+pub assignment-taken : (allowed : ℕ → Bool) (m : List ℕ) (n t id q v : ℕ) → parseAssignment allowed m ≡ A.Assignment n t id q v
+    → (allowed id ≡ true) × (8 + n + v ≤ length m) × ((number : ℕ) → WellFormed (cutEntry m n t number v))
+assignment-taken allowed m n t id q v e = go (rw e at (assignment-is allowed m))
+  where
+    go : AssignmentIs allowed m (A.Assignment n t id q v) → (allowed id ≡ true) × (8 + n + v ≤ length m) × ((number : ℕ) → WellFormed (cutEntry m n t number v))
+    go (AssignmentIs.taken a h w) = (a, h, w)
+
+-- ---- an update
+
+pub data UpdateIs (held : ℕ → Bool) (typeOf : ℕ → ℕ) (m : List ℕ) : UpdateRead → Type 0 where
+  refused : {number place : ℕ} → UpdateIs held typeOf m (U.Refused number place)
+  taken : {id q v : ℕ} → held id ≡ true → 5 + v ≤ length m → IsValue (typeOf id) (take v (drop 5 m)) → UpdateIs held typeOf m (U.Update id q v)
+
+pub update-is : (held : ℕ → Bool) (typeOf : ℕ → ℕ) (m : List ℕ) → UpdateIs held typeOf m (parseUpdate held typeOf m)
+unfolding parseUpdate parseValueAt
+update-is held typeOf m =
+    by-test P _ _ _ (λ _. by-test P _ _ _ (λ h. by-test P _ _ _ (λ l. go h (leb-true _ _ l) _ refl)
+    (λ _. UpdateIs.refused)) (λ _. UpdateIs.refused)) (λ _. UpdateIs.refused)
+  where
+    P : UpdateRead → Type 0
+    P = UpdateIs held typeOf m
+
+    go : held (decode16 (drop 1 m)) ≡ true → 5 ≤ length m → (r : Parsed) → parseValue (typeOf (decode16 (drop 1 m))) (drop 5 m) ≡ r
+        → P (andThen U.Refused (movedBy 5 r) (λ v. U.Update (decode16 (drop 1 m)) (decode16 (drop 3 m)) v))
+    go h l (Refused k p) e = UpdateIs.refused
+    go h l (Taken v) e =
+        let all-there : 5 + v ≤ length m = omega (arith, value-fits (typeOf (decode16 (drop 1 m))) (drop 5 m) v e, length-drop 5 m) in
+        UpdateIs.taken h all-there (value-whole (typeOf (decode16 (drop 1 m))) (drop 5 m) v e)
+
+pub update-taken : (held : ℕ → Bool) (typeOf : ℕ → ℕ) (m : List ℕ) (id q v : ℕ) → parseUpdate held typeOf m ≡ U.Update id q v
+    → (held id ≡ true) × (5 + v ≤ length m) × IsValue (typeOf id) (take v (drop 5 m))
+update-taken held typeOf m id q v e = go (rw e at (update-is held typeOf m))
+  where
+    go : UpdateIs held typeOf m (U.Update id q v) → (held id ≡ true) × (5 + v ≤ length m) × IsValue (typeOf id) (take v (drop 5 m))
+    go (UpdateIs.taken a h w) = (a, h, w)

@@ -1,0 +1,42 @@
+-- Doubles as numbers: the scalar that a value is, and when two values are equal.
+use Prim.Native.Nat.{ℕ, zero, suc, _+_, _*_}
+use mathlib.Core.Bool.{Bool, true, false, _&&_}
+use mathlib.Core.List.{List}
+use lib.ListN.{drop, getD}
+use lib.Dec.{eqb}
+use lib.Ieee as Ieee
+use lib.Ieee.{Float, binary64, ofBits}
+use Rattle.field.specs.Choice.{pick}
+use Rattle.field.specs.Octets.{decode16, bytesEqual}
+use Rattle.value.specs.Value.{boolean, double, arrayOf}
+use Rattle.scalar.specs.declared.Scalar as D
+use Rattle.scalar.specs.declared.Scalar.the-variants.{Boolean, Double, Neither}
+
+-- "All numbers are big endian": the number that the first eight bytes are
+unfoldable pub decode64 : List ℕ → ℕ
+decode64 s = ((decode16 s * 65536 + decode16 (drop 2 s)) * 65536 + decode16 (drop 4 s)) * 65536 + decode16 (drop 6 s)
+
+-- the Double of the first eight bytes
+abbrev pub doubleOf : List ℕ → Float
+doubleOf s = ofBits binary64 (decode64 s)
+
+-- "a Boolean, a Double as a number, or neither where it is text or an array"
+unfoldable pub scalarOf : ℕ → List ℕ → D.Scalar
+scalarOf type value =
+    pick (eqb type boolean) (Boolean (eqb (getD value 0 0) 1)) (pick (eqb type double) (Double (doubleOf value)) Neither)
+
+-- "Two Doubles are equal when the language's comparison says so"
+unfoldable pub equalDouble : List ℕ → List ℕ → Bool
+equalDouble v w = Ieee.eq (doubleOf v) (doubleOf w)
+
+-- "arrays element by element": so many elements
+unfoldable pub equalDoubles : ℕ → List ℕ → List ℕ → Bool
+equalDoubles zero v w = true
+equalDoubles (suc count) v w = equalDouble v w && equalDoubles count (drop 8 v) (drop 8 w)
+
+-- "other values by their bytes"
+unfoldable pub equalValues : ℕ → List ℕ → List ℕ → Bool
+equalValues type v w =
+    pick (eqb type double) (equalDouble v w)
+    (pick (eqb type (arrayOf + double)) (eqb (getD v 0 0) (getD w 0 0) && equalDoubles (getD v 0 0) (drop 1 v) (drop 1 w))
+    (bytesEqual v w))

@@ -1,0 +1,111 @@
+// Doubles as numbers: the scalar that a value is, and when two values are equal.
+ghost use mathlib.Core.Path.{_≡_};
+ghost use Prim.Native.Nat.{_+_, _*_, _≤_};
+ghost use lib.ListN.{length, drop, getD};
+ghost use lib.Ieee as Ieee;
+ghost use lib.Ieee.{binary64, ofBits};
+ghost use Rattle.value.specs.Value.{IsValue};
+ghost use Rattle.scalar.specs.Scalar.{decode64, scalarOf, equalDouble, equalDoubles, equalValues};
+
+// What reading an entry answers.
+pub enum Scalar {
+    Boolean(bool),
+    Double(f64),
+    Neither,
+    Refused(u8),
+}
+
+fn wide(x: u8) -> u64
+    ensures { λ r. ⌜ (r ≡ x) × (r ≤ 255) ⌝ }
+{
+    x as u64
+}
+
+fn read_u32(s: &[u8], at: usize) -> u64
+    requires { ⌜ at + 4 ≤ length (now s) ⌝ }
+    ensures { λ r. ⌜ r ≡ getD (now (s .entry)) at 0 * 16777216 + getD (now (s .entry)) (at + 1) 0 * 65536 + getD (now (s .entry)) (at + 2) 0 * 256 + getD (now (s .entry)) (at + 3) 0 ⌝ }
+    ensures { λ r. ⌜ r ≤ 4294967295 ⌝ }
+{
+    let a = wide(s[at]);
+    let b = wide(s[at + 1]);
+    let c = wide(s[at + 2]);
+    let d = wide(s[at + 3]);
+    a * 16777216 + b * 65536 + c * 256 + d
+}
+
+// The number of the first eight bytes, the highest one first.
+fn read_u64(s: &[u8]) -> u64
+    requires { ⌜ 8 ≤ length (now s) ⌝ }
+    ensures { λ r. ⌜ r ≡ decode64 (now (s .entry)) ⌝ }
+{
+    let high = read_u32(s, 0);
+    let low = read_u32(s, 4);
+    high * 4294967296 + low
+}
+
+// The Double of a bit pattern, a NaN for each pattern of a NaN.
+fn double_of(n: u64) -> f64
+    ensures { λ r. ⌜ r ≡ ofBits binary64 n ⌝ }
+{
+    if 9218868437227405312 < n % 9223372036854775808 {
+        return 0.0 / 0.0;
+    }
+    f64::from_bits(n)
+}
+
+// The scalar of a value that fills its bytes.
+pub fn scalar_of(type_code: u16, value: &[u8]) -> Scalar
+    requires { ⌜ IsValue «type_code» (now value) ⌝ }
+    ensures { λ r. ⌜ r ≡ scalarOf «type_code» (now (value .entry)) ⌝ }
+{
+    if type_code == 0 {
+        return Scalar::Boolean(value[0] == 1);
+    }
+    if type_code == 1 {
+        return Scalar::Double(double_of(read_u64(value)));
+    }
+    Scalar::Neither
+}
+
+fn same_double(v: &[u8], w: &[u8]) -> bool
+    requires { ⌜ (8 ≤ length (now v)) × (8 ≤ length (now w)) ⌝ }
+    ensures { λ r. ⌜ r ≡ equalDouble (now (v .entry)) (now (w .entry)) ⌝ }
+{
+    let x = double_of(read_u64(v));
+    let y = double_of(read_u64(w));
+    x == y
+}
+
+// So many Doubles, behind an array's count.
+fn same_doubles(count: u8, v: &[u8], w: &[u8]) -> bool
+    requires { ⌜ (1 + 8 * count ≤ length (now v)) × (1 + 8 * count ≤ length (now w)) ⌝ }
+    ensures { λ r. ⌜ r ≡ equalDoubles count (drop 1 (now (v .entry))) (drop 1 (now (w .entry))) ⌝ }
+{
+    let mut left = count;
+    let mut at: usize = 1;
+    while 0 < left {
+        if !same_double(&v[at..], &w[at..]) {
+            return false;
+        }
+        at += 8;
+        left -= 1;
+    }
+    true
+}
+
+// Whether two values of a type are equal.
+pub fn same_value(type_code: u16, v: &[u8], w: &[u8]) -> bool
+    requires { ⌜ IsValue «type_code» (now v) × IsValue «type_code» (now w) ⌝ }
+    ensures { λ r. ⌜ r ≡ equalValues «type_code» (now (v .entry)) (now (w .entry)) ⌝ }
+{
+    if type_code == 1 {
+        return same_double(v, w);
+    }
+    if type_code == 0x11 {
+        if v[0] != w[0] {
+            return false;
+        }
+        return same_doubles(v[0], v, w);
+    }
+    field::same_bytes(v, w)
+}

@@ -1,0 +1,104 @@
+-- What a sound table and sound marks are, as facts: true gives them, and they give true.
+use mathlib.Core.Path.{_≡_}
+use mathlib.Core.Bool.{Bool, true, _&&_, and-eq-true-iff}
+use mathlib.Core.List.{List}
+use Prim.Native.Nat.{ℕ, _*_, _≤_, _<_}
+use lib.Dec.{leb}
+use lib.ListN.{length, getD}
+use borrow.Author.Tests.{leb-true, le-leb}
+use Rattle.message.specs.Layout.{WellFormed}
+use Rattle.table.specs.Names.{namesDiffer}
+use Rattle.table.specs.Table.{TableMemory, Holds, Named, headField, entryAt, entriesOf}
+use Rattle.table.proofs.SearchLaws.{differ-below, below-differ}
+use Rattle.soundness.specs.Sound.{allBelow, soundEntry, largeEnough, soundTable, soundMarks}
+use Rattle.soundness.proofs.BelowLaws.{all-at, at-all}
+use Rattle.soundness.proofs.EntryLaws.{entry-facts, facts-entry}
+
+pub record SoundFacts (limit : ℕ) (m : TableMemory) : Type 0 where
+  pub holds : Holds limit (m .heads) (m .bytes)
+  pub count-fits : m .count ≤ limit
+  pub names-fit : (i : ℕ) → i < m .count → headField (m .heads) i 0 ≤ 64
+  pub values-fit : (i : ℕ) → i < m .count → headField (m .heads) i 1 ≤ 256
+  pub well-formed : (i : ℕ) → i < m .count → WellFormed (entryAt (m .heads) (m .bytes) i)
+  pub differ : namesDiffer (entriesOf m) ≡ true
+
+-- ---- memory that is large enough
+
+pub large-holds : (limit : ℕ) (heads bytes : List ℕ) → largeEnough limit heads bytes ≡ true → Holds limit heads bytes
+unfolding largeEnough
+large-holds limit heads bytes h =
+    let both = and-eq-true-iff (leb (4 * limit) (length heads)) (leb (320 * limit) (length bytes)) .0 h in
+    record { heads-hold = leb-true (4 * limit) (length heads) (both .0); bytes-hold = leb-true (320 * limit) (length bytes) (both .1) }
+
+pub holds-large : (limit : ℕ) (heads bytes : List ℕ) → Holds limit heads bytes → largeEnough limit heads bytes ≡ true
+unfolding largeEnough
+holds-large limit heads bytes h = rw (le-leb (4 * limit) (length heads) (h .heads-hold)) (le-leb (320 * limit) (length bytes) (h .bytes-hold))
+
+-- ---- sound entries
+
+pub entries-facts : (n : ℕ) (heads bytes : List ℕ) → allBelow n (soundEntry heads bytes) ≡ true
+    → (i : ℕ) → i < n → (headField heads i 0 ≤ 64) × (headField heads i 1 ≤ 256) × WellFormed (entryAt heads bytes i)
+entries-facts n heads bytes s i l = entry-facts heads bytes i (all-at n (soundEntry heads bytes) s i l)
+
+pub entries-named : (n : ℕ) (heads bytes : List ℕ) → Holds n heads bytes → allBelow n (soundEntry heads bytes) ≡ true → Named n heads bytes
+entries-named n heads bytes h s = record { holds = h; names-fit = λ i l. entries-facts n heads bytes s i l .0 }
+
+-- ---- the table
+
+pub sound-facts : (limit : ℕ) (m : TableMemory) → soundTable limit m ≡ true → SoundFacts limit m
+unfolding soundTable
+sound-facts limit m h =
+    let large = largeEnough limit (m .heads) (m .bytes) in
+    let few = leb (m .count) limit in
+    let each = allBelow (m .count) (soundEntry (m .heads) (m .bytes)) in
+    let last = and-eq-true-iff (large && few && each) (namesDiffer (entriesOf m)) .0 h in
+    let third = and-eq-true-iff (large && few) each .0 (last .0) in
+    let first = and-eq-true-iff large few .0 (third .0) in
+    let entry = entries-facts (m .count) (m .heads) (m .bytes) (third .1) in
+    record {
+      holds = large-holds limit (m .heads) (m .bytes) (first .0);
+      count-fits = leb-true (m .count) limit (first .1);
+      names-fit = λ i l. entry i l .0;
+      values-fit = λ i l. entry i l .1;
+      well-formed = λ i l. entry i l .2;
+      differ = last .1;
+    }
+
+pub facts-sound : (limit : ℕ) (m : TableMemory) → SoundFacts limit m → soundTable limit m ≡ true
+unfolding soundTable
+facts-sound limit m f =
+    let each =
+    at-all (m .count) (soundEntry (m .heads) (m .bytes)) (λ i l. facts-entry (m .heads) (m .bytes) i (f .names-fit i l) (f .values-fit i l) (f .well-formed i l)) in
+    rw (holds-large limit (m .heads) (m .bytes) (f .holds), le-leb (m .count) limit (f .count-fits), each) (f .differ)
+
+-- memory and count fit: the entries and their names decide
+pub fits-sound : (limit : ℕ) (m : TableMemory) → Holds limit (m .heads) (m .bytes) → m .count ≤ limit
+    → soundTable limit m ≡ (allBelow (m .count) (soundEntry (m .heads) (m .bytes)) && namesDiffer (entriesOf m))
+unfolding soundTable
+fits-sound limit m h l = rw (holds-large limit (m .heads) (m .bytes) h, le-leb (m .count) limit l)
+
+-- ---- names that all differ
+
+pub differ-facts : (m : TableMemory) → namesDiffer (entriesOf m) ≡ true
+    → (i j : ℕ) → i < j → j < m .count → entryAt (m .heads) (m .bytes) i .name ≡ entryAt (m .heads) (m .bytes) j .name → ⊥
+unfolding entriesOf
+differ-facts m h = differ-below (m .count) (entryAt (m .heads) (m .bytes)) h
+
+pub facts-differ : (m : TableMemory)
+    → ((i j : ℕ) → i < j → j < m .count → entryAt (m .heads) (m .bytes) i .name ≡ entryAt (m .heads) (m .bytes) j .name → ⊥) → namesDiffer (entriesOf m) ≡ true
+unfolding entriesOf
+facts-differ m h = below-differ (m .count) (entryAt (m .heads) (m .bytes)) h
+
+-- ---- connection marks
+
+pub marks-facts : (marks : List ℕ) → soundMarks marks ≡ true → (16 ≤ length marks) × ((c : ℕ) → c < 16 → getD marks c 0 ≤ 2)
+unfolding soundMarks
+marks-facts marks h =
+    let p : ℕ → Bool = λ c. leb (getD marks c 0) 2 in
+    let both = and-eq-true-iff (leb 16 (length marks)) (allBelow 16 p) .0 h in
+    (leb-true 16 (length marks) (both .0), λ c l. leb-true (getD marks c 0) 2 (all-at 16 p (both .1) c l))
+
+pub facts-marks : (marks : List ℕ) → 16 ≤ length marks → ((c : ℕ) → c < 16 → getD marks c 0 ≤ 2) → soundMarks marks ≡ true
+unfolding soundMarks
+facts-marks marks h g =
+    rw (le-leb 16 (length marks) h) (at-all 16 (λ (c : ℕ). leb (getD marks c 0) 2) (λ c l. le-leb (getD marks c 0) 2 (g c l)))

@@ -1,0 +1,4 @@
+pub mod TabulateLaws
+pub mod NamesLaws
+pub mod SearchLaws
+pub mod StoreLaws

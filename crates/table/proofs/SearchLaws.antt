@@ -1,0 +1,104 @@
+-- Laws of the names in a lent table, and of the search over them.
+use mathlib.Core.Path.{_≡_, ap, _∙_}
+use mathlib.Core.Bool.{true, false}
+use mathlib.Core.List.{List}
+use Prim.Native.Nat.{ℕ, _+_, _-_, _*_, _≤_, _<_}
+use native.Mathlib.Nat.{add-zero}
+use native.Mathlib.Numerals.{add-one}
+use native.Mathlib.Omega.{arith}
+use lib.ListN.{length, getD, take, drop, length-drop}
+use lib.Seq.{getD-take, getD-drop, length-take-le}
+use borrow.Author.Tests.{le-ltb}
+use Rattle.message.specs.Layout.{Entry}
+use Rattle.field.specs.Octets.{bytesEqual}
+use Rattle.field.proofs.EqualLaws.{is-false, bytes-equal-true}
+use Rattle.table.specs.Names.{holder, nameHeld, namesDiffer}
+use Rattle.table.specs.Table.{Named, entryAt, headField, tabulate}
+use Rattle.table.proofs.NamesLaws.{holder-found, holder-absent, holder-first, differ-last, differ-at, at-differ}
+use Rattle.table.proofs.TabulateLaws.{length-tabulate, getD-tabulate}
+
+-- the first number of a head
+pub first-field : (heads : List ℕ) (i : ℕ) → headField heads i 0 ≡ getD heads (4 * i) 0
+first-field heads i = ap (λ (k : ℕ). getD heads k 0) (add-zero (4 * i))
+
+pub name-fits : (n : ℕ) (heads bytes : List ℕ) (i : ℕ) → Named n heads bytes → i < n → getD heads (4 * i) 0 ≤ 64
+name-fits n heads bytes i m l = omega (arith, m .names-fit i l, first-field heads i)
+
+pub name-length : (n : ℕ) (heads bytes : List ℕ) (i : ℕ) → Named n heads bytes → i < n → length (entryAt heads bytes i .name) ≡ getD heads (4 * i) 0
+unfolding entryAt
+name-length n heads bytes i m l =
+    length-take-le (headField heads i 0) (drop (320 * i) bytes) (omega (arith, m .names-fit i l, m .holds .bytes-hold, length-drop (320 * i) bytes))
+    ∙ first-field heads i
+
+pub name-byte : (heads bytes : List ℕ) (i k : ℕ) → k < getD heads (4 * i) 0 → getD (entryAt heads bytes i .name) k 0 ≡ getD bytes (320 * i + k) 0
+unfolding entryAt
+name-byte heads bytes i k h =
+    getD-take (headField heads i 0) (drop (320 * i) bytes) k 0 (omega (arith, first-field heads i)) ∙ getD-drop (320 * i) bytes k 0
+
+-- none of the first n has the name
+pub holder-below : (name : List ℕ) (f : ℕ → Entry) (n : ℕ) → ((i : ℕ) → i < n → bytesEqual (f i .name) name ≡ false) → holder name (tabulate n f) ≡ n
+holder-below name f n h =
+    holder-absent name (tabulate n f) (f 0) (λ i l.
+    let b : i < n = omega (arith, length-tabulate n f) in rw (getD-tabulate n f i (f 0) b) (h i b))
+    ∙ length-tabulate n f
+
+-- it is entry id's, and none before it has it
+pub holder-at : (name : List ℕ) (f : ℕ → Entry) (n id : ℕ) → id < n → ((i : ℕ) → i < id → bytesEqual (f i .name) name ≡ false)
+    → bytesEqual (f id .name) name ≡ true → holder name (tabulate n f) ≡ id
+holder-at name f n id l h t =
+    holder-first name (tabulate n f) (f 0) id (omega (arith, length-tabulate n f))
+    (λ i m.
+    let b : i < n = omega arith in rw (getD-tabulate n f i (f 0) b) (h i m))
+    (rw (getD-tabulate n f id (f 0) l) t)
+
+-- ---- names that all differ, by their places
+
+pub differ-below : (n : ℕ) (f : ℕ → Entry) → namesDiffer (tabulate n f) ≡ true → (i j : ℕ) → i < j → j < n → f i .name ≡ f j .name → ⊥
+differ-below n f h i j l m e =
+    let b : j < length (tabulate n f) = omega (arith, length-tabulate n f) in
+    differ-at (tabulate n f) (f 0) h i j l b (rw (getD-tabulate n f i (f 0) (omega arith), getD-tabulate n f j (f 0) m) e)
+
+-- and the way back
+pub below-differ : (n : ℕ) (f : ℕ → Entry) → ((i j : ℕ) → i < j → j < n → f i .name ≡ f j .name → ⊥) → namesDiffer (tabulate n f) ≡ true
+below-differ n f h =
+    at-differ (tabulate n f) (f 0) (λ i j l m e.
+    let b : j < n = omega (arith, length-tabulate n f) in
+    h i j l b (rw (getD-tabulate n f i (f 0) (omega arith), getD-tabulate n f j (f 0) b) at e))
+
+-- entry i's name is held by none before it
+pub differ-more : (i : ℕ) (f : ℕ → Entry) → namesDiffer (tabulate i f) ≡ true → i ≤ holder (f i .name) (tabulate i f) → namesDiffer (tabulate (i + 1) f) ≡ true
+unfolding tabulate nameHeld
+differ-more i f h l =
+    rw (add-one, differ-last (tabulate i f) (f i), h, le-ltb (holder (f i .name) (tabulate i f)) (length (tabulate i f)) (omega (arith, length-tabulate i f)))
+
+-- it is held by one before it
+pub differ-held : (n : ℕ) (f : ℕ → Entry) (i : ℕ) → i < n → holder (f i .name) (tabulate i f) < i → namesDiffer (tabulate n f) ≡ false
+differ-held n f i l h = is-false (namesDiffer (tabulate n f)) (λ d. differ-below n f d (holder (f i .name) (tabulate i f)) i h l same)
+  where
+    same : f (holder (f i .name) (tabulate i f)) .name ≡ f i .name
+    same =
+        bytes-equal-true (f (holder (f i .name) (tabulate i f)) .name) (f i .name)
+        (rw (getD-tabulate i f (holder (f i .name) (tabulate i f)) (f 0) h) at (holder-found (f i .name) (tabulate i f) (f 0) (omega (arith, length-tabulate i f))))
+
+-- ---- parts of memory
+
+-- entry i's name, as the bytes from its start to its end
+pub name-part : (heads bytes : List ℕ) (i : ℕ) → take (320 * i + getD heads (4 * i) 0 - 320 * i) (drop (320 * i) bytes) ≡ entryAt heads bytes i .name
+unfolding entryAt
+name-part heads bytes i =
+    let e : 320 * i + getD heads (4 * i) 0 - 320 * i ≡ headField heads i 0 = omega (arith, first-field heads i) in
+    rw e
+
+pub value-part : (heads bytes : List ℕ) (i : ℕ)
+    → take (320 * i + 64 + getD heads (4 * i + 1) 0 - (320 * i + 64)) (drop (320 * i + 64) bytes) ≡ entryAt heads bytes i .value
+unfolding entryAt
+value-part heads bytes i =
+    let e : 320 * i + 64 + getD heads (4 * i + 1) 0 - (320 * i + 64) ≡ headField heads i 1 = omega arith in
+    rw e
+
+pub named-less : (n : ℕ) (heads bytes : List ℕ) (i : ℕ) → i ≤ n → Named n heads bytes → Named i heads bytes
+named-less n heads bytes i l m =
+    record {
+      holds = record { heads-hold = omega (arith, m .holds .heads-hold); bytes-hold = omega (arith, m .holds .bytes-hold) };
+      names-fit = λ j h. m .names-fit j (omega arith);
+    }

@@ -1,0 +1,85 @@
+// The lent table: the search over names, and storing.
+ghost use mathlib.Core.Path.{_≡_};
+ghost use Prim.Native.Nat.{_≤_, _<_};
+ghost use lib.ListN.{length};
+ghost use Rattle.table.specs.Names.{holder};
+ghost use Rattle.table.specs.Table.{Holds, Named, entryAt, tabulate, headsWithEntry, bytesWithEntry, headsWithValue, bytesWithValue};
+
+pub const MAX_ENTRIES: usize = 64;
+
+// An entry's bytes: its name's, and then its value's.
+pub const ENTRY_SIZE: usize = 320;
+
+pub const NAME_SIZE: usize = 64;
+
+// A head's numbers: the name's length, the value's length, type and number.
+pub const HEAD_SIZE: usize = 4;
+
+// The ID of the first of so many entries whose name is equal, or their count where there is none.
+pub fn find_name(heads: &[u16], bytes: &[u8], count: usize, name: &[u8]) -> usize
+    requires { ⌜ count ≤ 64 ⌝ }
+    requires { ⌜ Named count (now heads) (now bytes) ⌝ }
+    ensures { λ r. ⌜ r ≡ holder (now (name .entry)) (tabulate count (entryAt (now (heads .entry)) (now (bytes .entry)))) ⌝ }
+{
+    let mut i = 0;
+    let id = 'entries: loop {
+        if i >= count {
+            break 'entries count;
+        }
+        let head = HEAD_SIZE * i;
+        let n = heads[head] as usize;
+        if n == name.len() {
+            let from = ENTRY_SIZE * i;
+            let mut k = 0;
+            loop {
+                if k >= n {
+                    break 'entries i;
+                }
+                if bytes[from + k] != name[k] {
+                    break;
+                }
+                k += 1;
+            }
+        }
+        i += 1;
+    };
+    id
+}
+
+// Stores an entry's head and bytes.
+pub fn store_entry(
+    heads: &mut [u16],
+    bytes: &mut [u8],
+    id: usize,
+    name: &[u8],
+    type_code: u16,
+    number: u16,
+    value: &[u8],
+)
+    requires { ⌜ (id < 64) × Holds 64 (now heads) (now bytes) ⌝ }
+    requires { ⌜ (length (now name) ≤ 64) × (length (now value) ≤ 256) ⌝ }
+    ensures { λ _. ⌜ now (heads .exit) ≡ headsWithEntry (now (heads .entry)) id (record { name = now (name .entry); type = «type_code»; number = number; value = now (value .entry) }) ⌝ }
+    ensures { λ _. ⌜ now (bytes .exit) ≡ bytesWithEntry (now (bytes .entry)) id (record { name = now (name .entry); type = «type_code»; number = number; value = now (value .entry) }) ⌝ }
+{
+    let head = HEAD_SIZE * id;
+    let name_at = ENTRY_SIZE * id;
+    heads[head] = name.len() as u16;
+    heads[head + 1] = value.len() as u16;
+    heads[head + 2] = type_code;
+    heads[head + 3] = number;
+    field::copy_into(bytes, name_at, name);
+    field::copy_into(bytes, name_at + NAME_SIZE, value);
+}
+
+// Stores another number and value of an entry.
+pub fn store_value(heads: &mut [u16], bytes: &mut [u8], id: usize, number: u16, value: &[u8])
+    requires { ⌜ (id < 64) × Holds 64 (now heads) (now bytes) ⌝ }
+    requires { ⌜ length (now value) ≤ 256 ⌝ }
+    ensures { λ _. ⌜ now (heads .exit) ≡ headsWithValue (now (heads .entry)) id number (now (value .entry)) ⌝ }
+    ensures { λ _. ⌜ now (bytes .exit) ≡ bytesWithValue (now (bytes .entry)) id (now (value .entry)) ⌝ }
+{
+    let head = HEAD_SIZE * id;
+    heads[head + 1] = value.len() as u16;
+    heads[head + 3] = number;
+    field::copy_into(bytes, ENTRY_SIZE * id + NAME_SIZE, value);
+}

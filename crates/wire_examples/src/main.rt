@@ -1,0 +1,17 @@
+// Both sides of every limit, the UTF-8 cases, the comparisons P1 to P10, and messages of all kinds, whole, cut and damaged:
+// one line a case.
+mod cases;
+mod comparisons;
+mod limits;
+mod messages;
+mod print;
+mod refusals;
+mod texts;
+
+fn main() {
+    limits::run();
+    texts::run();
+    comparisons::run();
+    messages::run();
+    refusals::run();
+}

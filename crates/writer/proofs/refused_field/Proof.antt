@@ -1,0 +1,29 @@
+use mathlib.Core.Path.{_≡_, sym, ap, _∙_}
+use Prim.Native.Nat.{ℕ}
+use Rattle.field.specs.declared.Parsed.the-variants.{Refused}
+use Rattle.writer.specs.declared.Needed.the-variants as N
+use borrow.Author.Needs.{needs}
+use Rattle.writer.proofs.refused_field.Statement.{statement}
+use Rattle.writer.proofs.refused_field.Tie as tie
+
+refused-number : {number number′ place place′ : ℕ} → Refused number place ≡ Refused number′ place′ → number ≡ number′
+refused-number e = cc
+
+enum-known-p : tie.Need-enum-known-p
+enum-known-p c = search needs
+
+enum-told : tie.Need-enum-told
+enum-told c = search needs
+
+returns : tie.Need-returns
+returns c =
+    λ number place e.
+    let g = c .before .p .given in
+    let same : Refused (g .0 .0) (g .0 .1 .0) ≡ Refused number place = sym (g .1) ∙ e in
+    ap N.Refused (refused-number same)
+
+returns-2 : tie.Need-returns-2
+returns-2 c = λ number place e. cc (c .enum-told .given .1)
+
+pub refused-field-spec : {M : Type 1} → statement M
+refused-field-spec = tie.close (tie.spec enum-known-p enum-told returns returns-2)
