@@ -4,7 +4,6 @@ use field::NAME_TAKEN;
 use field::Number;
 use field::Octet;
 use field::TABLE_FULL;
-use field::UNKNOWN_ID;
 use field::UNSOUND;
 use message::AllowedId;
 use message::AssignmentRead;
@@ -131,26 +130,12 @@ fn copy_update(heads: &mut [u16], bytes: &mut [u8], count: u16, m: &[u8]) -> Cop
     requires { ⌜ soundTable 64 (tableMemory (now heads) (now bytes) count) ≡ true ⌝ }
     ensures { λ r. ⌜ resultOf r (now (heads .exit)) (now (bytes .exit)) count ≡ executeCopy (tableMemory (now (heads .entry)) (now (bytes .entry)) count) (judgeCopyUpdate (now (m .entry)) (parseHeldUpdate (entriesOf (tableMemory (now (heads .entry)) (now (bytes .entry)) count)) (now (m .entry)))) ⌝ }
 {
-    let Number::There(id) = field::read_u16(m, 1) else {
-        return refused(INCOMPLETE);
-    };
-    if id >= count {
-        return refused(UNKNOWN_ID);
-    }
-    let i = id as usize;
-    let type_at = table::HEAD_SIZE * i + 2;
-    let type_code = heads[type_at] as u8;
-    let read = message::read_update(m, type_code);
-    let UpdateRead::Update {
-        id: _,
-        number,
-        value_length,
-    } = read
-    else {
+    let read = table::read_held_update(heads, bytes, count, m);
+    let UpdateRead::Update { id, number, value_length } = read else {
         return refused_update(read);
     };
     let taken = 5 + value_length;
-    table::store_value(heads, bytes, i, number, &m[5..taken]);
+    table::store_value(heads, bytes, id as usize, number, &m[5..taken]);
     stored(taken)
 }
 

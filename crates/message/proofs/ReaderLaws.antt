@@ -1,13 +1,13 @@
 -- Laws of the reader that its code cites.
 use mathlib.Core.Path.{_≡_, refl, sym, ap, _∙_}
-use mathlib.Core.Bool.{Bool, true}
+use mathlib.Core.Bool.{Bool, true, false}
 use mathlib.Core.List.{List}
-use Prim.Native.Nat.{ℕ, _+_, _-_, _≤_}
+use Prim.Native.Nat.{ℕ, _+_, _-_, _≤_, _<_}
 use native.Mathlib.Omega.{arith}
 use lib.ListN.{length, drop, getD, length-drop}
 use lib.Dec.{leb}
-use borrow.Author.Tests.{le-leb}
-use Rattle.field.specs.Answer.{incomplete, wrongId}
+use borrow.Author.Tests.{le-leb, lt-leb}
+use Rattle.field.specs.Answer.{incomplete, wrongId, unknownId}
 use Rattle.field.specs.Choice.{pick}
 use Rattle.field.specs.Octets.{decode16}
 use Rattle.field.specs.Field.{movedBy, andThen}
@@ -16,9 +16,13 @@ use Rattle.field.specs.declared.Parsed.the-variants.{Refused, Taken}
 use Rattle.text.specs.Text.{parseText}
 use Rattle.text.proofs.TextLaws.{TextIs, text-is}
 use Rattle.value.specs.Value.{knownType}
-use Rattle.message.specs.Reader.{parseName, parseValueAt, parseAfterName}
+use Rattle.message.specs.Reader.{idAllowed, parseName, parseValueAt, parseAfterName, parseUpdate}
+use Rattle.message.specs.declared.AllowedId.the-variants.{Any}
 use Rattle.message.specs.declared.AssignmentRead.{AssignmentRead}
 use Rattle.message.specs.declared.AssignmentRead.the-variants as A
+use Rattle.message.specs.declared.UpdateRead.{UpdateRead}
+use Rattle.message.specs.declared.UpdateRead.the-variants as U
+use Rattle.field.proofs.ChoiceLaws.{by-test}
 
 -- a name that was read has its prefix, and its bytes are there
 pub name-taken : (m : List ℕ) (n : ℕ) → 1 ≤ length m → parseName m ≡ Taken n → (2 ≤ n) × (1 + n ≤ length m)
@@ -40,3 +44,40 @@ pub after-id : (allowed : ℕ → Bool) (at t id : ℕ) (m : List ℕ) → at + 
     → parseAfterName allowed at m ≡ behindId allowed at t id m
 unfolding parseAfterName behindId pick
 after-id allowed at t id m h e k i = rw (le-leb (at + 1) (length m) (omega arith), ← e, k, le-leb (at + 3) (length m) h, ← i)
+
+-- ---- an update whose ID was read by itself
+
+module _ (held : ℕ → Bool) (typeOf : ℕ → ℕ) (m : List ℕ) where
+  pub update-short : length m < 3 → parseUpdate held typeOf m ≡ U.Refused incomplete 1
+  unfolding parseUpdate pick
+  update-short h = rw (lt-leb 3 (length m) h)
+
+  pub update-unknown : (id : ℕ) → 3 ≤ length m → id ≡ decode16 (drop 1 m) → held id ≡ false → parseUpdate held typeOf m ≡ U.Refused unknownId 1
+  unfolding parseUpdate pick
+  update-unknown id h e k = rw (le-leb 3 (length m) h, ← e, k)
+
+  -- the ID is held: the rest is read as an update of any ID with its type
+  pub update-held : (id t : ℕ) → 3 ≤ length m → id ≡ decode16 (drop 1 m) → held id ≡ true → t ≡ typeOf id
+      → parseUpdate held typeOf m ≡ parseUpdate (idAllowed Any) (λ _. t) m
+  unfolding parseUpdate pick
+  update-held id t h e k q = rw (le-leb 3 (length m) h, ← e, k, ← q)
+
+-- the ID of an update that was read stands behind its kind
+data IdIs (m : List ℕ) : UpdateRead → Type 0 where
+  refused : {number place : ℕ} → IdIs m (U.Refused number place)
+  taken : {id number valueLength : ℕ} → id ≡ decode16 (drop 1 m) → IdIs m (U.Update id number valueLength)
+
+id-is : (held : ℕ → Bool) (typeOf : ℕ → ℕ) (m : List ℕ) → IdIs m (parseUpdate held typeOf m)
+unfolding parseUpdate
+id-is held typeOf m =
+    by-test (IdIs m) _ _ _ (λ _. by-test (IdIs m) _ _ _ (λ _. by-test (IdIs m) _ _ _ (λ _. go (parseValueAt _ 5 m)) (λ _. refused)) (λ _. refused)) (λ _. refused)
+  where
+    go : (r : Parsed) → IdIs m (andThen U.Refused r (λ v. U.Update (decode16 (drop 1 m)) (decode16 (drop 3 m)) v))
+    go (Refused number place) = refused
+    go (Taken v) = taken refl
+
+pub update-id : (held : ℕ → Bool) (typeOf : ℕ → ℕ) (m : List ℕ) (id q v : ℕ) → U.Update id q v ≡ parseUpdate held typeOf m → id ≡ decode16 (drop 1 m)
+update-id held typeOf m id q v e = go (rw (← e) at (id-is held typeOf m))
+  where
+    go : IdIs m (U.Update id q v) → id ≡ decode16 (drop 1 m)
+    go (taken h) = h

@@ -15,9 +15,9 @@ use Rattle.field.proofs.ChoiceLaws.{by-test}
 use Rattle.text.specs.Utf8.{isUtf8}
 use Rattle.text.specs.Text.{parseText}
 use Rattle.text.proofs.TextLaws.{TextIs, text-is}
-use Rattle.value.specs.Value.{parseValue, IsValue}
-use Rattle.value.proofs.ValueLaws.{value-fits, value-whole}
-use Rattle.message.specs.Layout.{Entry, WellFormed}
+use Rattle.value.specs.Value.{maxValueSize, parseValue, IsValue}
+use Rattle.value.proofs.ValueLaws.{value-fits, value-small, value-whole}
+use Rattle.message.specs.Layout.{Entry, WellFormed, maxNameLength}
 use Rattle.message.specs.Reader.{parseName, parseValueAt, parseAfterName, parseAssignment, parseUpdate}
 use Rattle.message.specs.declared.AssignmentRead.{AssignmentRead}
 use Rattle.message.specs.declared.AssignmentRead.the-variants as A
@@ -123,3 +123,21 @@ update-taken held typeOf m id q v e = go (rw e at (update-is held typeOf m))
   where
     go : UpdateIs held typeOf m (U.Update id q v) → (held id ≡ true) × (5 + v ≤ length m) × IsValue (typeOf id) (take v (drop 5 m))
     go (UpdateIs.taken a h w) = (a, h, w)
+
+-- ---- how long name and value are
+
+part-length : (from n : ℕ) (m : List ℕ) → from + n ≤ length m → length (take n (drop from m)) ≡ n
+part-length from n m h = simp (length-take, length-drop) (omega arith)
+
+pub assignment-fits : (allowed : ℕ → Bool) (m : List ℕ) (n t id q v : ℕ) → parseAssignment allowed m ≡ A.Assignment n t id q v
+    → (8 + n + v ≤ length m) × (n ≤ maxNameLength) × (v ≤ maxValueSize)
+assignment-fits allowed m n t id q v e =
+    let w = assignment-taken allowed m n t id q v e in
+    let f = w .2 0 in
+    (w .1, omega (arith, f .name-fits, part-length 3 n m (omega (arith, w .1))), omega (arith, value-small t (take v (drop (8 + n) m)) (length (take v (drop (8 + n) m))) (f .value-whole), part-length (8 + n) v m (w .1)))
+
+pub update-fits : (held : ℕ → Bool) (typeOf : ℕ → ℕ) (m : List ℕ) (id q v : ℕ) → parseUpdate held typeOf m ≡ U.Update id q v
+    → (held id ≡ true) × (5 + v ≤ length m) × (v ≤ maxValueSize)
+update-fits held typeOf m id q v e =
+    let w = update-taken held typeOf m id q v e in
+    (w .0, w .1, omega (arith, value-small (typeOf id) (take v (drop 5 m)) (length (take v (drop 5 m))) (w .2), part-length 5 v m (w .1)))

@@ -309,24 +309,12 @@ fn receive_update(
     requires { ⌜ 16 ≤ length (now marks) ⌝ }
     ensures { λ r. ⌜ resultOf r (now (heads .exit)) (now (bytes .exit)) count (now (marks .entry)) (now (out .exit)) ≡ execute (serverMemory (now (heads .entry)) (now (bytes .entry)) count (now (marks .entry))) (now (out .entry)) (judgeUpdate c (entriesOf (tableMemory (now (heads .entry)) (now (bytes .entry)) count)) (now (m .entry)) (parseHeldUpdate (entriesOf (tableMemory (now (heads .entry)) (now (bytes .entry)) count)) (now (m .entry)))) ⌝ }
 {
-    let Number::There(id) = field::read_u16(m, 1) else {
-        return refused(INCOMPLETE);
-    };
-    if id >= count {
-        return refused(UNKNOWN_ID);
-    }
-    let head = table::HEAD_SIZE * (id as usize);
-    let type_code = heads[head + 2] as u8;
-    let stored = heads[head + 3];
-    let read = message::read_update(m, type_code);
-    let UpdateRead::Update {
-        id: _,
-        number,
-        value_length,
-    } = read
-    else {
+    let read = table::read_held_update(heads, bytes, count, m);
+    let UpdateRead::Update { id, number, value_length } = read else {
         return refused_update(read);
     };
+    let number_at = table::HEAD_SIZE * (id as usize) + 3;
+    let stored = heads[number_at];
     let taken = 5 + value_length;
     if !SequenceNumber(stored).is_passed_by(SequenceNumber(number)) {
         return ignored(taken);

@@ -1,3 +1,4 @@
 pub mod BelowLaws
 pub mod EntryLaws
 pub mod SoundLaws
+pub mod ReadableLaws

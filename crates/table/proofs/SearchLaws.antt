@@ -8,14 +8,14 @@ use native.Mathlib.Numerals.{add-one}
 use native.Mathlib.Omega.{arith}
 use lib.ListN.{length, getD, take, drop, length-drop}
 use lib.Seq.{getD-take, getD-drop, length-take-le}
-use borrow.Author.Tests.{le-ltb}
+use borrow.Author.Tests.{le-ltb, lt-ltb}
 use Rattle.message.specs.Layout.{Entry}
 use Rattle.field.specs.Octets.{bytesEqual}
 use Rattle.field.proofs.EqualLaws.{is-false, bytes-equal-true}
 use Rattle.table.specs.Names.{holder, nameHeld, namesDiffer}
-use Rattle.table.specs.Table.{Named, entryAt, headField, tabulate}
+use Rattle.table.specs.Table.{TableMemory, Named, entryAt, entriesOf, headField, tabulate}
 use Rattle.table.proofs.NamesLaws.{holder-found, holder-absent, holder-first, differ-last, differ-at, at-differ}
-use Rattle.table.proofs.TabulateLaws.{length-tabulate, getD-tabulate}
+use Rattle.table.proofs.TabulateLaws.{length-tabulate, getD-tabulate, length-entries}
 
 -- the first number of a head
 pub first-field : (heads : List ℕ) (i : ℕ) → headField heads i 0 ≡ getD heads (4 * i) 0
@@ -102,3 +102,13 @@ named-less n heads bytes i l m =
       holds = record { heads-hold = omega (arith, m .holds .heads-hold); bytes-hold = omega (arith, m .holds .bytes-hold) };
       names-fit = λ j h. m .names-fit j (omega arith);
     }
+
+-- ---- what the search's answer says of the entries of a table
+
+pub found-held : (table : TableMemory) (name : List ℕ) (id : ℕ) → id ≡ holder name (entriesOf table) → id < table .count → nameHeld name (entriesOf table) ≡ true
+unfolding nameHeld
+found-held table name id e h = rw (← e, length-entries table) (lt-ltb id (table .count) h)
+
+pub not-found : (table : TableMemory) (name : List ℕ) (id : ℕ) → id ≡ holder name (entriesOf table) → table .count ≤ id → nameHeld name (entriesOf table) ≡ false
+unfolding nameHeld
+not-found table name id e h = rw (← e, length-entries table) (le-ltb id (table .count) h)

@@ -9,7 +9,7 @@ use native.Mathlib.Omega.{arith}
 use lib.ListN.{length, getD, set, length-append, length-set, List·getD-append}
 use lib.Seq.{getD-at, getD-set-same, getD-set-other, ext-getD}
 use Rattle.message.specs.Layout.{Entry}
-use Rattle.table.specs.Table.{tabulate}
+use Rattle.table.specs.Table.{TableMemory, entryAt, entriesOf, tabulate}
 
 pub length-tabulate : (n : ℕ) (f : ℕ → Entry) → length (tabulate n f) ≡ n
 unfolding tabulate
@@ -45,3 +45,13 @@ tabulate-set n f g k h =
         getD-tabulate n g i (g k) b ∙ ap g e ∙ sym (rw e (getD-set-same (tabulate n f) k (g k) (g k) (omega (arith, length-tabulate n f))))
     go i b (no e) =
         getD-tabulate n g i (g k) b ∙ h i b e ∙ sym (getD-set-other (tabulate n f) k i (g k) (g k) e ∙ getD-tabulate n f i (g k) b)
+
+-- ---- the entries of a table
+
+pub length-entries : (m : TableMemory) → length (entriesOf m) ≡ m .count
+unfolding entriesOf
+length-entries m = length-tabulate (m .count) (entryAt (m .heads) (m .bytes))
+
+pub entry-get : (m : TableMemory) (i : ℕ) (d : Entry) → i < m .count → getD (entriesOf m) i d ≡ entryAt (m .heads) (m .bytes) i
+unfolding entriesOf
+entry-get m i d h = getD-tabulate (m .count) (entryAt (m .heads) (m .bytes)) i d h

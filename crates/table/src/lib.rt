@@ -1,9 +1,13 @@
 // The lent table: the search over names, and storing.
+use field::INCOMPLETE;
+use field::Number;
+use field::UNKNOWN_ID;
+use message::UpdateRead;
 ghost use mathlib.Core.Path.{_≡_};
 ghost use Prim.Native.Nat.{_≤_, _<_};
 ghost use lib.ListN.{length};
 ghost use Rattle.table.specs.Names.{holder};
-ghost use Rattle.table.specs.Table.{Holds, Named, entryAt, tabulate, headsWithEntry, bytesWithEntry, headsWithValue, bytesWithValue};
+ghost use Rattle.table.specs.Table.{Holds, Named, Readable, parseHeldUpdate, entryAt, tabulate, headsWithEntry, bytesWithEntry, headsWithValue, bytesWithValue};
 
 pub const MAX_ENTRIES: usize = 64;
 
@@ -44,6 +48,22 @@ pub fn find_name(heads: &[u16], bytes: &[u8], count: usize, name: &[u8]) -> usiz
         i += 1;
     };
     id
+}
+
+// An update of a held ID, read with its stored type. `bytes` is lent for the contract.
+pub fn read_held_update(heads: &[u16], bytes: &[u8], count: u16, m: &[u8]) -> UpdateRead
+    requires { ⌜ Readable count (now heads) (now bytes) ⌝ }
+    ensures { λ r. ⌜ r ≡ parseHeldUpdate (tabulate count (entryAt (now (heads .entry)) (now (bytes .entry)))) (now (m .entry)) ⌝ }
+{
+    let Number::There(id) = field::read_u16(m, 1) else {
+        return UpdateRead::Refused(INCOMPLETE, 1);
+    };
+    if id >= count {
+        return UpdateRead::Refused(UNKNOWN_ID, 1);
+    }
+    let type_at = HEAD_SIZE * (id as usize) + 2;
+    let type_code = heads[type_at] as u8;
+    message::read_update(m, type_code)
 }
 
 // Stores an entry's head and bytes.

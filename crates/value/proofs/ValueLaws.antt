@@ -4,6 +4,7 @@ use mathlib.Core.Bool.{Bool, true, false, _&&_, false≢true}
 use mathlib.Core.List.{List, [], _∷_, _++_}
 use Prim.Native.Nat.{ℕ, zero, suc, _+_, _-_, _*_, _≤_, _<_}
 use native.Mathlib.Omega.{arith}
+use native.Mathlib.Decide.{decLe}
 use native.Mathlib.Nat.{le-refl}
 use lib.ListN.{length, take, drop, getD, length-drop}
 use lib.Seq.{take-length, take-take, take-append-seam, length-take-le}
@@ -28,6 +29,21 @@ known-array t h k = leb-true 0x10 t (left (leb 0x10 t) (leb t 0x12) (rw (lt-leb 
     left : (a b : Bool) → (a && b) ≡ true → a ≡ true
     left true b e = refl
     left false b e = absurd (false≢true e)
+
+-- known types are small numbers
+pub known-small : (t : ℕ) → knownType t ≡ true → t ≤ 0x12
+unfolding knownType
+known-small t k = go (decLe t 2)
+  where
+    right : (a b : Bool) → (a && b) ≡ true → b ≡ true
+    right true b e = e
+    right false b e = absurd (false≢true e)
+
+    go : Dec (t ≤ 2) → t ≤ 0x12
+    go (yes h) = omega arith
+    go (no h) =
+        let l : 2 < t = omega (arith, h) in
+        leb-true t 0x12 (right (leb 0x10 t) (leb t 0x12) (rw (lt-leb t 2 l) at k))
 
 element-known : (t : ℕ) → leb t 2 ≡ true → knownType t ≡ true
 unfolding knownType

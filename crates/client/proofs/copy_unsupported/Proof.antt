@@ -1,3 +1,12 @@
+use mathlib.Core.Path.{_≡_, sym, _∙_}
+use Prim.Native.Nat.{_≤_}
+use native.Mathlib.Omega.{arith}
+use lib.ListN.{length, drop}
+use borrow.Author.Tests.{le-leb, lt-leb}
+use Rattle.field.specs.Choice.{pick}
+use Rattle.field.specs.Octets.{decode16}
+use Rattle.field.proofs.FieldLaws.{number-there, number-missing}
+use Rattle.client.specs.Copy.{executeCopy}
 use borrow.Author.Needs.{needs}
 use Rattle.client.proofs.copy_unsupported.Statement.{statement}
 use Rattle.client.proofs.copy_unsupported.Tie as tie
@@ -15,13 +24,24 @@ refused-requires : tie.Need-refused-requires
 refused-requires c κs = search needs
 
 returns : tie.Need-returns
-returns c = ?
+unfolding executeCopy pick
+returns c =
+    λ heads bytes count.
+    let m = c .before .before .before .before .before .args .m .now in
+    let l = number-missing m 1 (sym (c .before .enum-told .given .1) ∙ c .before .before .before .read-u16 .ensures) in
+    rw (c .refused .ensures, lt-leb 3 (length m) (omega arith))
 
 ignored-requires : tie.Need-ignored-requires
 ignored-requires c κs = search needs
 
 returns-2 : tie.Need-returns-2
-returns-2 c = ?
+unfolding executeCopy pick
+returns-2 c =
+    λ heads bytes count.
+    let f = c .before .before in
+    let m = f .before .before .before .before .args .m .now in
+    let h = number-there m 1 (f .revision .given .0 .0) (sym (f .revision .given .1) ∙ f .before .before .read-u16 .ensures) in
+    rw (c .ignored .ensures, le-leb 3 (length m) (h .0), ← (h .1))
 
 pub copy-unsupported-spec : {M : Type 1} → statement M
 copy-unsupported-spec =

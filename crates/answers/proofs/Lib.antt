@@ -1,0 +1,2 @@
+pub mod RecipientLaws
+pub mod HelloLaws
