@@ -131,7 +131,12 @@ fn copy_update(heads: &mut [u16], bytes: &mut [u8], count: u16, m: &[u8]) -> Cop
     ensures { λ r. ⌜ resultOf r (now (heads .exit)) (now (bytes .exit)) count ≡ executeCopy (tableMemory (now (heads .entry)) (now (bytes .entry)) count) (judgeCopyUpdate (now (m .entry)) (parseHeldUpdate (entriesOf (tableMemory (now (heads .entry)) (now (bytes .entry)) count)) (now (m .entry)))) ⌝ }
 {
     let read = table::read_held_update(heads, bytes, count, m);
-    let UpdateRead::Update { id, number, value_length } = read else {
+    let UpdateRead::Update {
+        id,
+        number,
+        value_length,
+    } = read
+    else {
         return refused_update(read);
     };
     let taken = 5 + value_length;

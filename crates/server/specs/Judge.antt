@@ -80,6 +80,10 @@ judgeUpdate c es m (U.Update id number valueLength) =
     (storeUpdate id number (take valueLength (drop 5 m)) (5 + valueLength) (otherGreeted c))
     (ignore (5 + valueLength))
 
+-- "greeted only" (3)
+abbrev pub whenGreeted : ℕ → Verdict → Verdict
+whenGreeted mark x = pick (eqb mark greeted) x (refuse wrongState)
+
 -- "After the kind (4) comes the state for that kind (3)."
 unfoldable pub judgeMessage : ℕ → List Entry → (c mark : ℕ) → List ℕ → Verdict
 judgeMessage limit es c mark m =
@@ -87,9 +91,9 @@ judgeMessage limit es c mark m =
     (pick (eqb (getD m 0 0) keepAliveKind) (ignore 1)
     (pick (eqb (getD m 0 0) helloKind) (judgeHello c mark m)
     (pick (eqb (getD m 0 0) assignmentKind)
-    (pick (eqb mark greeted) (judgeAssignment limit es m (parseAssignment (idAllowed (Only newId)) m)) (refuse wrongState))
+    (whenGreeted mark (judgeAssignment limit es m (parseAssignment (idAllowed (Only newId)) m)))
     (pick (eqb (getD m 0 0) updateKind)
-    (pick (eqb mark greeted) (judgeUpdate c es m (parseHeldUpdate es m)) (refuse wrongState))
+    (whenGreeted mark (judgeUpdate c es m (parseHeldUpdate es m)))
     (refuse unknownKind)))))
     (refuse incomplete)
 

@@ -26,7 +26,7 @@ ghost use Rattle.message.specs.Layout.{Entry};
 ghost use Rattle.message.specs.Reader.{idAllowed, parseAssignment, parseUpdate};
 ghost use Rattle.answers.specs.Recipients.{Recipients, recipientSet};
 ghost use Rattle.soundness.specs.Sound.{soundTable, soundMarks};
-ghost use Rattle.server.specs.Judge.{openConnection, leave, clientMessage, localCreate, localWrite, readEntry, ignore, acceptHello, unsupportedRevision, storeNew, storeUpdate, judgeHello, judgeAssignment, judgeUpdate, judgeMessage, judgeCreate, judgeWrite};
+ghost use Rattle.server.specs.Judge.{openConnection, leave, clientMessage, localCreate, localWrite, readEntry, ignore, acceptHello, unsupportedRevision, storeNew, storeUpdate, whenGreeted, judgeHello, judgeAssignment, judgeUpdate, judgeMessage, judgeCreate, judgeWrite};
 ghost use Rattle.server.specs.Step.{callStep, execute, freshStart, readScalar};
 ghost use Rattle.server.specs.Answers.{serverMemory, resultOf, startOf};
 
@@ -255,13 +255,17 @@ fn receive_assignment(
     bytes: &mut [u8],
     count: &mut u16,
     marks: &[u8],
+    c: usize,
     m: &[u8],
     out: &mut [u8],
 ) -> Answer
     requires { ⌜ soundTable 64 (tableMemory (now heads) (now bytes) (now count)) ≡ true ⌝ }
-    requires { ⌜ (16 ≤ length (now marks)) × (1 ≤ length (now m)) ⌝ }
-    ensures { λ r. ⌜ resultOf r (now (heads .exit)) (now (bytes .exit)) (now (count .exit)) (now (marks .entry)) (now (out .exit)) ≡ execute (serverMemory (now (heads .entry)) (now (bytes .entry)) (now (count .entry)) (now (marks .entry))) (now (out .entry)) (judgeAssignment 64 (entriesOf (tableMemory (now (heads .entry)) (now (bytes .entry)) (now (count .entry)))) (now (m .entry)) (parseAssignment (idAllowed (AllowedId.Only 65535)) (now (m .entry)))) ⌝ }
+    requires { ⌜ (c < 16) × (16 ≤ length (now marks)) × (1 ≤ length (now m)) ⌝ }
+    ensures { λ r. ⌜ resultOf r (now (heads .exit)) (now (bytes .exit)) (now (count .exit)) (now (marks .entry)) (now (out .exit)) ≡ execute (serverMemory (now (heads .entry)) (now (bytes .entry)) (now (count .entry)) (now (marks .entry))) (now (out .entry)) (whenGreeted (getD (now (marks .entry)) c 0) (judgeAssignment 64 (entriesOf (tableMemory (now (heads .entry)) (now (bytes .entry)) (now (count .entry)))) (now (m .entry)) (parseAssignment (idAllowed (AllowedId.Only 65535)) (now (m .entry))))) ⌝ }
 {
+    if marks[c] != soundness::GREETED {
+        return refused(WRONG_STATE);
+    }
     let read = message::read_assignment(m, AllowedId::Only(NEW_ID));
     let AssignmentRead::Assignment {
         name_length,
@@ -306,11 +310,19 @@ fn receive_update(
     out: &mut [u8],
 ) -> Answer
     requires { ⌜ soundTable 64 (tableMemory (now heads) (now bytes) count) ≡ true ⌝ }
-    requires { ⌜ 16 ≤ length (now marks) ⌝ }
-    ensures { λ r. ⌜ resultOf r (now (heads .exit)) (now (bytes .exit)) count (now (marks .entry)) (now (out .exit)) ≡ execute (serverMemory (now (heads .entry)) (now (bytes .entry)) count (now (marks .entry))) (now (out .entry)) (judgeUpdate c (entriesOf (tableMemory (now (heads .entry)) (now (bytes .entry)) count)) (now (m .entry)) (parseHeldUpdate (entriesOf (tableMemory (now (heads .entry)) (now (bytes .entry)) count)) (now (m .entry)))) ⌝ }
+    requires { ⌜ (c < 16) × (16 ≤ length (now marks)) ⌝ }
+    ensures { λ r. ⌜ resultOf r (now (heads .exit)) (now (bytes .exit)) count (now (marks .entry)) (now (out .exit)) ≡ execute (serverMemory (now (heads .entry)) (now (bytes .entry)) count (now (marks .entry))) (now (out .entry)) (whenGreeted (getD (now (marks .entry)) c 0) (judgeUpdate c (entriesOf (tableMemory (now (heads .entry)) (now (bytes .entry)) count)) (now (m .entry)) (parseHeldUpdate (entriesOf (tableMemory (now (heads .entry)) (now (bytes .entry)) count)) (now (m .entry))))) ⌝ }
 {
+    if marks[c] != soundness::GREETED {
+        return refused(WRONG_STATE);
+    }
     let read = table::read_held_update(heads, bytes, count, m);
-    let UpdateRead::Update { id, number, value_length } = read else {
+    let UpdateRead::Update {
+        id,
+        number,
+        value_length,
+    } = read
+    else {
         return refused_update(read);
     };
     let number_at = table::HEAD_SIZE * (id as usize) + 3;
@@ -355,18 +367,13 @@ fn receive_kind(
     if kind == message::HELLO {
         return receive_hello(heads, bytes, *count, marks, c, m, out);
     }
-    if kind != message::ASSIGNMENT {
-        if kind != message::UPDATE {
-            return refused(field::UNKNOWN_KIND);
-        }
-    }
-    if marks[c] != soundness::GREETED {
-        return refused(WRONG_STATE);
-    }
     if kind == message::ASSIGNMENT {
-        return receive_assignment(heads, bytes, count, marks, m, out);
+        return receive_assignment(heads, bytes, count, marks, c, m, out);
     }
-    receive_update(heads, bytes, *count, marks, c, m, out)
+    if kind == message::UPDATE {
+        return receive_update(heads, bytes, *count, marks, c, m, out);
+    }
+    refused(field::UNKNOWN_KIND)
 }
 
 // ---- the calls

@@ -19,6 +19,8 @@ pub const STRING: u8 = 0x02;
 
 pub const BOOLEAN_ARRAY: u8 = 0x10;
 
+pub const DOUBLE_ARRAY: u8 = 0x11;
+
 pub const STRING_ARRAY: u8 = 0x12;
 
 // How many bytes an encoded value may have, its prefix or count included.

@@ -4,9 +4,6 @@ use message::AllowedId;
 ghost use Prim.Native.Nat.{_≤_};
 ghost use lib.ListN.{length};
 
-// The type of an array of Doubles.
-pub const DOUBLE_ARRAY: u8 = 0x11;
-
 pub fn text(label: &[u8], s: &[u8]) {
     print::word(label);
     if text::is_utf8(s) {

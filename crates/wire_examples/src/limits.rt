@@ -1,59 +1,62 @@
 // Both sides of each limit on names and values. A value is read as a lone one, and a name in an assignment.
 use crate::cases;
-use crate::cases::DOUBLE_ARRAY;
 use message::ASSIGNMENT;
 use message::UPDATE;
 use value::BOOLEAN;
 use value::BOOLEAN_ARRAY;
+use value::DOUBLE_ARRAY;
 use value::STRING;
 use value::STRING_ARRAY;
+ghost use Prim.Native.Nat.{_≤_};
+ghost use lib.ListN.{length};
 
-fn strings() {
-    let mut s = [97u8; 256];
-    s[0] = 0;
-    s[1] = 254;
-    cases::lone(b"string 254", STRING, &s);
-    let mut s = [97u8; 257];
-    s[0] = 0;
-    s[1] = 255;
-    cases::lone(b"string 255", STRING, &s);
+// A value of so many bytes: its first ones, stored over the rest of an array.
+fn lone_in(label: &[u8], t: u8, head: &[u8], size: usize, s: &mut [u8])
+    requires { ⌜ length (now head) ≤ length (now s) ⌝ }
+{
+    field::copy_into(s, 0, head);
+    if size <= s.len() {
+        cases::lone(label, t, &s[0..size]);
+    }
 }
 
-fn boolean_arrays() {
-    let mut s = [1u8; 256];
-    s[0] = 255;
-    cases::lone(b"boolean array 255", BOOLEAN_ARRAY, &s);
-}
-
-fn double_arrays() {
-    let mut s = [255u8; 249];
-    s[0] = 31;
-    cases::lone(b"double array 31", DOUBLE_ARRAY, &s);
-    let mut s = [255u8; 257];
-    s[0] = 32;
-    cases::lone(b"double array 32", DOUBLE_ARRAY, &s);
-}
-
-fn empty_strings() {
-    let mut s = [0u8; 255];
-    s[0] = 127;
-    cases::lone(b"string array empty 127", STRING_ARRAY, &s);
+fn of_zeros(label: &[u8], t: u8, head: &[u8], size: usize)
+    requires { ⌜ length (now head) ≤ 257 ⌝ }
+{
     let mut s = [0u8; 257];
-    s[0] = 128;
-    cases::lone(b"string array empty 128", STRING_ARRAY, &s);
+    lone_in(label, t, head, size, &mut s);
 }
 
-fn one_string() {
-    let mut s = [97u8; 256];
-    s[0] = 1;
-    s[1] = 0;
-    s[2] = 253;
-    cases::lone(b"string array one of 253", STRING_ARRAY, &s);
-    let mut s = [97u8; 257];
-    s[0] = 1;
-    s[1] = 0;
-    s[2] = 254;
-    cases::lone(b"string array one of 254", STRING_ARRAY, &s);
+fn of_ones(label: &[u8], t: u8, head: &[u8], size: usize)
+    requires { ⌜ length (now head) ≤ 257 ⌝ }
+{
+    let mut s = [1u8; 257];
+    lone_in(label, t, head, size, &mut s);
+}
+
+fn texts() {
+    of_ones(b"string 254", STRING, b"\x00\xFE", 256);
+    of_ones(b"string 255", STRING, b"\x00\xFF", 257);
+    of_ones(
+        b"string array one of 253",
+        STRING_ARRAY,
+        b"\x01\x00\xFD",
+        256,
+    );
+    of_ones(
+        b"string array one of 254",
+        STRING_ARRAY,
+        b"\x01\x00\xFE",
+        257,
+    );
+}
+
+fn arrays() {
+    of_ones(b"boolean array 255", BOOLEAN_ARRAY, b"\xFF", 256);
+    of_ones(b"double array 31", DOUBLE_ARRAY, b"\x1F", 249);
+    of_ones(b"double array 32", DOUBLE_ARRAY, b"\x20", 257);
+    of_zeros(b"string array empty 127", STRING_ARRAY, b"\x7F", 255);
+    of_zeros(b"string array empty 128", STRING_ARRAY, b"\x80", 257);
 }
 
 // An assignment of a Boolean, whose name has 64 bytes and 65.
@@ -95,11 +98,8 @@ fn longest_update() {
 }
 
 pub fn run() {
-    strings();
-    boolean_arrays();
-    double_arrays();
-    empty_strings();
-    one_string();
+    texts();
+    arrays();
     names();
     longest_assignment();
     longest_update();

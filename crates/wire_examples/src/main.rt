@@ -1,5 +1,5 @@
-// Both sides of every limit, the UTF-8 cases, the comparisons P1 to P10, and messages of all kinds, whole, cut and damaged:
-// one line a case.
+// Both sides of every limit, the UTF-8 cases, the comparisons P1 to P10, and messages of all kinds, whole, cut and damaged,
+// and as the writer makes them: one line a case.
 mod cases;
 mod comparisons;
 mod limits;
@@ -7,6 +7,7 @@ mod messages;
 mod print;
 mod refusals;
 mod texts;
+mod writer_cases;
 
 fn main() {
     limits::run();
@@ -14,4 +15,5 @@ fn main() {
     comparisons::run();
     messages::run();
     refusals::run();
+    writer_cases::run();
 }

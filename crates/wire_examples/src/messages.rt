@@ -1,9 +1,9 @@
 // Messages of all six kinds, with values of all six types.
 use crate::cases;
-use crate::cases::DOUBLE_ARRAY;
 use value::BOOLEAN;
 use value::BOOLEAN_ARRAY;
 use value::DOUBLE;
+use value::DOUBLE_ARRAY;
 use value::STRING;
 use value::STRING_ARRAY;
 

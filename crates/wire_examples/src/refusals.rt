@@ -1,8 +1,8 @@
 // Messages cut short and damaged, and lone values: each refusal with its number and place.
 use crate::cases;
-use crate::cases::DOUBLE_ARRAY;
 use value::BOOLEAN;
 use value::DOUBLE;
+use value::DOUBLE_ARRAY;
 use value::STRING;
 use value::STRING_ARRAY;
 

@@ -155,10 +155,13 @@ store-entry-requires c κs =
     let e = c .before .before .before .before in
     let r = e .before .before .before .before .before .before .before in
     let s = to-start r in
-    let h = fits r in
-    ((omega (arith, e .if2 .left), sound-holds 64 (memory s) (s .pre .0)),
-    (omega (arith, h .1, length-take (3 + r .read .given .0 .0 - 3) (drop 3 (s .args .m .now))),
-    omega (arith, h .2, length-take (8 + r .read .given .0 .0 + r .read .given .0 .1 .1 .1 .1 .0 - (8 + r .read .given .0 .0)) (drop (8 + r .read .given .0 .0) (s .args .m .now)))))
+    let h = fits r in (
+      (omega (arith, e .if2 .left), sound-holds 64 (memory s) (s .pre .0)),
+      (
+        omega (arith, h .1, length-take (3 + r .read .given .0 .0 - 3) (drop 3 (s .args .m .now))),
+        omega (arith, h .2, length-take (8 + r .read .given .0 .0 + r .read .given .0 .1 .1 .1 .1 .0 - (8 + r .read .given .0 .0)) (drop (8 + r .read .given .0 .0) (s .args .m .now))),
+      ),
+    )
 
 add-count : tie.Need-add-count
 add-count c = search needs

@@ -10,12 +10,6 @@ use Rattle.client.specs.Copy.{judgeCopyUpdate, executeCopy}
 use borrow.Author.Needs.{needs}
 use Rattle.client.proofs.copy_update.Statement.{statement}
 use Rattle.client.proofs.copy_update.Tie as tie
-use Rattle.client.proofs.copy_update.Reads as reads
-use Rattle.client.proofs.copy_update.Lts as lts
-use Rattle.client.proofs.refused_update.Reads as refused-update-reads
-use Rattle.client.proofs.stored.Reads as stored-reads
-use Rattle.table.proofs.read_held_update.Reads as read-held-update-reads
-use Rattle.table.proofs.store_value.Reads as store-value-reads
 
 whole : (v : ℕ) → 5 + v - 5 ≡ v
 whole v = omega arith

@@ -1,51 +1,53 @@
+use mathlib.Core.Path.{_≡_, refl, sym, ap, _∙_}
+use borrow.Author.Tests.{not-true, not-false}
+use Rattle.field.specs.Choice.{pick}
+use Rattle.table.specs.Table.{tableMemory}
+use Rattle.server.specs.Judge.{judge}
+use Rattle.server.specs.Step.{callStep}
+use Rattle.server.proofs.CallLaws.{table-sound, sixteen-marks}
 use borrow.Author.Needs.{needs}
 use Rattle.server.proofs.create.Statement.{statement}
 use Rattle.server.proofs.create.Tie as tie
-use Rattle.server.proofs.create.Reads as reads
-use Rattle.server.proofs.create.Lts as lts
-use Rattle.server.proofs.create_sound.Reads as create-sound-reads
-use Rattle.server.proofs.is_sound.Reads as is-sound-reads
-use Rattle.server.proofs.refused.Reads as refused-reads
 
--- src/lib.rt:523:9
 is-sound-requires : tie.Need-is-sound-requires
 is-sound-requires c κs = search needs
 
--- src/lib.rt:524:9
 refused-requires : tie.Need-refused-requires
 refused-requires c κs = search needs
 
--- src/lib.rt:524:9
 same-length : tie.Need-same-length
 same-length c = search needs
 
--- src/lib.rt:524:9
 same-length-2 : tie.Need-same-length-2
 same-length-2 c = search needs
 
--- src/lib.rt:524:9
 returns : tie.Need-returns
-returns c = ?
+unfolding callStep pick
+returns c = rw (c .refused .ensures, ← (c .before .before .is-sound .ensures), not-true (c .before .before .is-sound .result) (c .before .if1 .taken))
 
--- src/lib.rt:526:5
 create-sound-requires : tie.Need-create-sound-requires
-create-sound-requires c κs = ?
+create-sound-requires c κs =
+    let e = c .before .before .before .before in
+    let s = e .before .before .before .before .before .before .before .before .before .before .before in
+    let h = sym (e .before .is-sound .ensures) ∙ not-false (e .before .is-sound .result) (e .if1 .left) in
+    let t = tableMemory (s .args .heads .now) (s .args .bytes .now) (s .args .count .now) in
+    (table-sound t (s .args .marks .now) h, sixteen-marks t (s .args .marks .now) h)
 
--- src/lib.rt:511:1
 same-length-3 : tie.Need-same-length-3
 same-length-3 c = search needs
 
--- src/lib.rt:511:1
 same-length-4 : tie.Need-same-length-4
 same-length-4 c = search needs
 
--- src/lib.rt:511:1
 same-length-5 : tie.Need-same-length-5
 same-length-5 c = search needs
 
--- src/lib.rt:511:1
 returns-2 : tie.Need-returns-2
-returns-2 c = ?
+unfolding callStep judge pick
+returns-2 c =
+    let k = c .before .before .before .before .before .before in
+    let e = k .before .before .before .before .before in
+    rw (← (e .before .is-sound .ensures), not-false (e .before .is-sound .result) (e .if1 .left)) (k .create-sound .ensures)
 
 pub create-spec : {M : Type 1} → statement M
 create-spec =

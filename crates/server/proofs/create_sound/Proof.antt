@@ -1,108 +1,158 @@
+use Rattle.writer.proofs.WriterLaws.{name-taken, lone-taken-is}
+use mathlib.Core.Path.{_≡_, refl, sym, ap, _∙_}
+use mathlib.Core.Bool.{true, false}
+use Prim.Native.Nat.{ℕ, _+_, _-_, _≤_, _<_}
+use native.Mathlib.Omega.{arith}
+use lib.ListN.{length}
+use borrow.Author.Tests.{lt-ltb, le-ltb}
+use Rattle.field.specs.Choice.{pick}
+use Rattle.field.specs.declared.Parsed.the-variants.{Refused, Taken}
+use Rattle.value.specs.Value.{parseLone}
+use Rattle.writer.specs.Writer.{checkName}
+use Rattle.table.specs.Names.{holder, nameHeld}
+use Rattle.table.specs.Table.{TableMemory, tableMemory, entriesOf}
+use Rattle.table.proofs.TabulateLaws.{length-entries}
+use Rattle.table.proofs.SearchLaws.{found-held, not-found}
+use Rattle.soundness.proofs.ReadableLaws.{sound-count, sound-named}
+use Rattle.server.specs.Judge.{judgeCreate}
+use Rattle.server.specs.Step.{execute}
 use borrow.Author.Needs.{needs}
 use Rattle.server.proofs.create_sound.Statement.{statement}
 use Rattle.server.proofs.create_sound.Tie as tie
-use Rattle.server.proofs.create_sound.Reads as reads
-use Rattle.server.proofs.create_sound.Lts as lts
-use Rattle.server.proofs.refused.Reads as refused-reads
-use Rattle.server.proofs.refused_field.Reads as refused-field-reads
-use Rattle.server.proofs.store_new.Reads as store-new-reads
-use Rattle.table.proofs.find_name.Reads as find-name-reads
-use Rattle.value.proofs.read_lone.Reads as read-lone-reads
-use Rattle.writer.proofs.check_name.Reads as check-name-reads
 
--- src/lib.rt:492:9
+to-start : tie.After-check-name → tie.Start
+to-start c = c .before .before .before .before .before .before .before
+
+to-check : tie.After-read-lone → tie.After-check-name
+to-check c = c .before .before .before
+
+abbrev memory : tie.Start → TableMemory
+memory s = tableMemory (s .args .heads .now) (s .args .bytes .now) (s .args .count .now)
+
+to-lone : tie.After-find-name → tie.After-read-lone
+to-lone c = c .before .before .before .before .before .before
+
+-- the search's answer
+holder-is : (c : tie.After-find-name) → c .find-name .result ≡ holder (to-start (to-check (to-lone c)) .args .name .now) (entriesOf (memory (to-start (to-check (to-lone c)))))
+unfolding to-start to-check to-lone entriesOf
+holder-is c = c .find-name .ensures
+
+-- the name and the value are allowed
+name-is : (c : tie.After-read-lone) → checkName (to-start (to-check c) .args .name .now) ≡ Taken (c .before .enum-told .given .0 .0)
+unfolding to-check to-start
+name-is c = sym (to-check c .check-name .ensures) ∙ c .before .enum-told .given .1
+
+value-is : (c : tie.After-find-name) → parseLone (to-start (to-check (to-lone c)) .args .type-code) (to-start (to-check (to-lone c)) .args .value .now) ≡ Taken (c .before .before .before .before .enum-told3 .given .0 .0)
+unfolding to-check to-start to-lone
+value-is c = sym (to-lone c .read-lone .ensures) ∙ c .before .before .before .before .enum-told3 .given .1
+
 check-name-requires : tie.Need-check-name-requires
 check-name-requires c κs = search needs
 
 enum-told : tie.Need-enum-told
 enum-told c = search needs
 
--- src/lib.rt:494:9
 enum-told-2 : tie.Need-enum-told-2
 enum-told-2 c = search needs
 
--- src/lib.rt:494:9
 refused-field-requires : tie.Need-refused-field-requires
 refused-field-requires c κs = search needs
 
--- src/lib.rt:494:9
 returns : tie.Need-returns
-returns c = ?
+unfolding judgeCreate execute
+returns c =
+    let e = c .before .enum-told2 .given in
+    let r = c .before .before .before in
+    rw (← (r .check-name .ensures), e .1) (rw (c .refused-field .ensures (e .0 .0) (e .0 .1 .0) (e .1)))
 
--- src/lib.rt:496:9
 read-lone-requires : tie.Need-read-lone-requires
 read-lone-requires c κs = search needs
 
 enum-told-3 : tie.Need-enum-told-3
 enum-told-3 c = search needs
 
--- src/lib.rt:498:9
 enum-told-4 : tie.Need-enum-told-4
 enum-told-4 c = search needs
 
--- src/lib.rt:498:9
 refused-field-requires-2 : tie.Need-refused-field-requires-2
 refused-field-requires-2 c κs = search needs
 
--- src/lib.rt:498:9
 returns-2 : tie.Need-returns-2
-returns-2 c = ?
+unfolding judgeCreate execute to-check
+returns-2 c =
+    let e = c .before .enum-told4 .given in
+    let r = c .before .before .before in
+    let n = to-check r in
+    rw (← (n .check-name .ensures), r .before .enum-told .given .1, ← (r .read-lone .ensures), e .1) (rw (c .refused-field2 .ensures (e .0 .0) (e .0 .1 .0) (e .1)))
 
--- src/lib.rt:501:8
 find-name-requires : tie.Need-find-name-requires
-find-name-requires c κs = ?
+unfolding to-check to-start to-lone
+find-name-requires c κs =
+    let s = to-start (to-check (c .before .before .before .before .before)) in
+    (sound-count 64 (memory s) (s .pre .0), sound-named 64 (memory s) (s .pre .0))
 
--- src/lib.rt:502:9
 refused-requires : tie.Need-refused-requires
 refused-requires c κs = search needs
 
--- src/lib.rt:502:9
 same-length : tie.Need-same-length
 same-length c = search needs
 
--- src/lib.rt:502:9
 same-length-2 : tie.Need-same-length-2
 same-length-2 c = search needs
 
--- src/lib.rt:502:9
 returns-3 : tie.Need-returns-3
-returns-3 c = ?
+unfolding judgeCreate execute to-check to-start to-lone pick
+returns-3 c =
+    let f = c .before .before in
+    let l = to-lone f in
+    let s = to-start (to-check l) in
+    rw (c .refused .ensures, name-is l, value-is f, found-held (memory s) (s .args .name .now) (f .find-name .result) (holder-is f) (c .before .if1 .taken))
 
--- src/lib.rt:505:9
 refused-requires-2 : tie.Need-refused-requires-2
 refused-requires-2 c κs = search needs
 
--- src/lib.rt:505:9
 same-length-3 : tie.Need-same-length-3
 same-length-3 c = search needs
 
--- src/lib.rt:505:9
 same-length-4 : tie.Need-same-length-4
 same-length-4 c = search needs
 
--- src/lib.rt:505:9
 returns-4 : tie.Need-returns-4
-returns-4 c = ?
+unfolding judgeCreate execute to-check to-start to-lone pick
+returns-4 c =
+    let f = c .before .before .before in
+    let l = to-lone f in
+    let s = to-start (to-check l) in
+    rw (c .refused2 .ensures, name-is l, value-is f, not-found (memory s) (s .args .name .now) (f .find-name .result) (holder-is f) (c .before .before .if1 .left), length-entries (memory s), le-ltb (s .args .count .now) 64 (c .before .if2 .taken))
 
--- src/lib.rt:507:5
 store-new-requires : tie.Need-store-new-requires
-store-new-requires c κs = ?
+unfolding to-check to-start to-lone
+store-new-requires c κs =
+    let e = c .before .before .before .before in
+    let f = e .before .before in
+    let l = to-lone f in
+    let s = to-start (to-check l) in
+    let v = lone-taken-is (s .args .type-code) (s .args .value .now) (f .before .before .before .before .enum-told3 .given .0 .0) (value-is f) in
+    (s .pre .0, ((e .if2 .left, s .pre .1), (name-taken (s .args .name .now) (l .before .enum-told .given .0 .0) (name-is l) .1, omega (arith, v .0, v .1))))
 
--- src/lib.rt:478:1
 same-length-5 : tie.Need-same-length-5
 same-length-5 c = search needs
 
--- src/lib.rt:478:1
 same-length-6 : tie.Need-same-length-6
 same-length-6 c = search needs
 
--- src/lib.rt:478:1
 same-length-7 : tie.Need-same-length-7
 same-length-7 c = search needs
 
--- src/lib.rt:478:1
 returns-5 : tie.Need-returns-5
-returns-5 c = ?
+unfolding judgeCreate to-check to-start to-lone pick
+returns-5 c =
+    let k = c .before .before .before .before .before .before in
+    let e = k .before .before .before .before .before in
+    let f = e .before .before in
+    let l = to-lone f in
+    let s = to-start (to-check l) in
+    rw (name-is l, value-is f, not-found (memory s) (s .args .name .now) (f .find-name .result) (holder-is f) (e .before .if1 .left), length-entries (memory s), lt-ltb (s .args .count .now) 64 (e .if2 .left)) (k .store-new .ensures)
 
 pub create-sound-spec : {M : Type 1} → statement M
 create-sound-spec =

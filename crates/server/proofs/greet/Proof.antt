@@ -1,48 +1,62 @@
+use Prim.Native.Nat.{ℕ, _≤_, _<_}
+use native.Mathlib.Omega.{arith}
+use mathlib.Core.List.{List}
+use mathlib.Core.Path.{_≡_}
+use lib.ListN.{length}
+use borrow.Author.Tests.{lt-leb, le-leb}
+use Rattle.field.specs.Choice.{pick}
+use Rattle.table.specs.Table.{TableMemory, tableMemory, entriesOf}
+use Rattle.soundness.proofs.ReadableLaws.{sound-count, sound-readable}
+use Rattle.answers.specs.Hello.{helloAnswer}
+use Rattle.server.specs.Step.{execute}
 use borrow.Author.Needs.{needs}
 use Rattle.server.proofs.greet.Statement.{statement}
 use Rattle.server.proofs.greet.Tie as tie
-use Rattle.server.proofs.greet.Reads as reads
-use Rattle.server.proofs.greet.Lts as lts
-use Rattle.answers.proofs.hello_length.Reads as hello-length-reads
-use Rattle.answers.proofs.only_sender.Reads as only-sender-reads
-use Rattle.answers.proofs.write_hello.Reads as write-hello-reads
-use Rattle.server.proofs.refused.Reads as refused-reads
 
--- src/lib.rt:83:9
+abbrev memory : tie.Start → TableMemory
+memory s = tableMemory (s .args .heads .now) (s .args .bytes .now) (s .args .count)
+
 hello-length-requires : tie.Need-hello-length-requires
-hello-length-requires c κs = ?
+hello-length-requires c κs =
+    let s = c .before .before .before .before in
+    (sound-count 64 (memory s) (s .pre .0 .1), sound-readable 64 (memory s) (s .pre .0 .1))
 
--- src/lib.rt:85:9
 refused-requires : tie.Need-refused-requires
 refused-requires c κs = search needs
 
--- src/lib.rt:85:9
 returns : tie.Need-returns
-returns c = ?
+unfolding execute pick entriesOf
+returns c =
+    let l = c .before .before in
+    let s = l .before .before .before .before .before in
+    rw (c .refused .ensures, lt-leb (length (helloAnswer 0 (entriesOf (memory s)))) (length (s .args .out .now)) (omega (arith, c .before .if1 .taken, l .hello-length .ensures .0)))
 
--- src/lib.rt:87:9
 only-sender-requires : tie.Need-only-sender-requires
 only-sender-requires c κs = search needs
 
--- src/lib.rt:88:9
 write-hello-requires : tie.Need-write-hello-requires
-write-hello-requires c κs = ?
+write-hello-requires c κs =
+    let e = c .before .before .before in
+    let s = e .before .before .before .before .before .before in
+    ((sound-count 64 (memory s) (s .pre .0 .1), sound-readable 64 (memory s) (s .pre .0 .1)), omega (arith, e .if1 .left, e .before .hello-length .ensures .0))
 
--- src/lib.rt:89:5
 slice-write-marks : tie.Need-slice-write-marks
 slice-write-marks c = search needs
 
--- src/lib.rt:70:1
 same-length : tie.Need-same-length
 same-length c = search needs
 
--- src/lib.rt:70:1
 same-length-2 : tie.Need-same-length-2
 same-length-2 c = search needs
 
--- src/lib.rt:70:1
 returns-2 : tie.Need-returns-2
-returns-2 c = ?
+unfolding execute pick entriesOf
+returns-2 c =
+    let u = c .before .before in
+    let g = u .before .before in
+    let e = g .before .before in
+    let s = e .before .before .before .before .before .before in
+    rw (u .write-hello .ensures .0, u .write-hello .ensures .1, g .only-sender .ensures, le-leb (length (helloAnswer 0 (entriesOf (memory s)))) (length (s .args .out .now)) (omega (arith, e .if1 .left, e .before .hello-length .ensures .0)))
 
 pub greet-spec : {M : Type 1} → statement M
 greet-spec =

@@ -1,86 +1,101 @@
+use mathlib.Core.Path.{_≡_, sym, _∙_}
+use mathlib.Core.Bool.{true}
+use native.Mathlib.Omega.{arith}
+use borrow.Author.Tests.{lt-ltb, le-ltb, not-true, not-false}
+use Rattle.field.specs.Choice.{pick}
+use Rattle.table.specs.Table.{TableMemory, tableMemory, headField, valueLengthField, valueStart, entryAt}
+use Rattle.soundness.specs.Sound.{soundTable}
+use Rattle.server.specs.Step.{readScalar}
+use Rattle.server.proofs.StepLaws.{StoredEntry, stored-entry, part-length}
 use borrow.Author.Needs.{needs}
 use Rattle.server.proofs.read.Statement.{statement}
 use Rattle.server.proofs.read.Tie as tie
-use Rattle.server.proofs.read.Reads as reads
-use Rattle.server.proofs.read.Lts as lts
-use Rattle.scalar.proofs.scalar_of.Reads as scalar-of-reads
-use Rattle.soundness.proofs.table_is_sound.Reads as table-is-sound-reads
 
--- src/lib.rt:585:9
+abbrev memory : tie.Start → TableMemory
+memory s = tableMemory (s .args .heads .now) (s .args .bytes .now) (s .args .count)
+
+to-start : tie.Else2 → tie.Start
+to-start e = e .before .before .before .before .before
+
+sound : (e : tie.Else2) → soundTable 64 (memory (to-start e)) ≡ true
+unfolding to-start
+sound e = sym (e .before .before .table-is-sound .ensures) ∙ not-false (e .before .before .table-is-sound .result) (e .before .if1 .left)
+
+-- the ID is held
+stored : (e : tie.Else2) → StoredEntry (memory (to-start e)) (to-start e .args .id)
+unfolding to-start
+stored e = stored-entry 64 (memory (to-start e)) (to-start e .args .id) (sound e) (e .if2 .left)
+
 table-is-sound-requires : tie.Need-table-is-sound-requires
 table-is-sound-requires c κs = search needs
 
--- src/lib.rt:586:9
 returns : tie.Need-returns
-returns c = ?
+unfolding readScalar pick
+returns c = rw (← (c .before .table-is-sound .ensures), not-true (c .before .table-is-sound .result) (c .if1 .taken))
 
--- src/lib.rt:589:9
 returns-2 : tie.Need-returns-2
-returns-2 c = ?
+unfolding readScalar pick
+returns-2 c =
+    let t = c .before .before in
+    rw (← (t .table-is-sound .ensures), not-false (t .table-is-sound .result) (c .before .if1 .left), le-ltb _ _ (c .if2 .taken))
 
--- src/lib.rt:592:16
 mul-head : tie.Need-mul-head
 mul-head c = search needs
 
--- src/lib.rt:593:20
 mul-value-at : tie.Need-mul-value-at
 mul-value-at c = search needs
 
--- src/lib.rt:593:20
 add-value-at : tie.Need-add-value-at
 add-value-at c = search needs
 
--- src/lib.rt:594:39
 add-value-end : tie.Need-add-value-end
 add-value-end c = search needs
 
--- src/lib.rt:594:33
 mul-value-end : tie.Need-mul-value-end
 mul-value-end c = search needs
 
--- src/lib.rt:594:33
 shared-slice-read-value-end : tie.Need-shared-slice-read-value-end
-shared-slice-read-value-end c = ?
+unfolding to-start
+shared-slice-read-value-end c = stored (c .before) .head-there 1 (omega arith)
 
--- src/lib.rt:594:33
 cast-value-end : tie.Need-cast-value-end
-cast-value-end c = ?
+unfolding to-start
+cast-value-end c = omega (arith, stored (c .before) .value-small)
 
--- src/lib.rt:594:21
 add-value-end-2 : tie.Need-add-value-end-2
-add-value-end-2 c = ?
+unfolding to-start
+add-value-end-2 c = omega (arith, stored (c .before) .value-small)
 
--- src/lib.rt:595:29
 add-scalar-of : tie.Need-add-scalar-of
 add-scalar-of c = search needs
 
--- src/lib.rt:595:23
 mul-scalar-of : tie.Need-mul-scalar-of
 mul-scalar-of c = search needs
 
--- src/lib.rt:595:23
 shared-slice-read-scalar-of : tie.Need-shared-slice-read-scalar-of
-shared-slice-read-scalar-of c = ?
+unfolding to-start
+shared-slice-read-scalar-of c = stored (c .before .before) .head-there 2 (omega arith)
 
--- src/lib.rt:595:40
 sub-scalar-of : tie.Need-sub-scalar-of
 sub-scalar-of c = search needs
 
--- src/lib.rt:595:40
 part-scalar-of-start : tie.Need-part-scalar-of-start
 part-scalar-of-start c = search needs
 
--- src/lib.rt:595:40
 part-scalar-of-end : tie.Need-part-scalar-of-end
-part-scalar-of-end c = ?
+unfolding to-start
+part-scalar-of-end c = stored (c .before .before) .value-there
 
--- src/lib.rt:595:5
 scalar-of-requires : tie.Need-scalar-of-requires
-scalar-of-requires c κs = ?
+unfolding to-start
+scalar-of-requires c κs = stored (c .before .before .before) .value-whole
 
--- src/lib.rt:582:1
 returns-3 : tie.Need-returns-3
-returns-3 c = ?
+unfolding readScalar pick to-start entryAt
+returns-3 c =
+    let e = c .before .before .before .before in
+    let a = to-start e .args in
+    rw (c .scalar-of .ensures, sound e, lt-ltb (a .id) (a .count) (e .if2 .left), part-length (valueStart (a .id)) (headField (a .heads .now) (a .id) valueLengthField))
 
 pub read-spec : {M : Type 1} → statement M
 read-spec =

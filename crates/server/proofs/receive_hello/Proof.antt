@@ -1,76 +1,89 @@
+use mathlib.Core.Path.{_≡_, sym, _∙_}
+use Prim.Native.Nat.{_≤_}
+use native.Mathlib.Omega.{arith}
+use lib.ListN.{length, drop, getD}
+use borrow.Author.Tests.{le-leb, lt-leb, eq-eqb, ne-eqb}
+use Rattle.field.specs.Choice.{pick}
+use Rattle.field.specs.Octets.{decode16}
+use Rattle.field.proofs.FieldLaws.{number-there, number-missing}
+use Rattle.server.specs.Judge.{judgeHello}
+use Rattle.server.specs.Step.{execute}
 use borrow.Author.Needs.{needs}
 use Rattle.server.proofs.receive_hello.Statement.{statement}
 use Rattle.server.proofs.receive_hello.Tie as tie
-use Rattle.server.proofs.receive_hello.Reads as reads
-use Rattle.server.proofs.receive_hello.Lts as lts
-use Rattle.field.proofs.read_u16.Reads as read-u16-reads
-use Rattle.server.proofs.greet.Reads as greet-reads
-use Rattle.server.proofs.refused.Reads as refused-reads
-use Rattle.server.proofs.turn_away.Reads as turn-away-reads
 
--- src/lib.rt:241:8
+to-start : tie.After-revision → tie.Start
+to-start c = c .before .before .before .before .before .before .before .before .before .before
+
+revision-there : (c : tie.After-revision) → (3 ≤ length (to-start c .args .m .now)) × (c .revision .given .0 .0 ≡ decode16 (drop 1 (to-start c .args .m .now)))
+unfolding to-start
+revision-there c = number-there (to-start c .args .m .now) 1 (c .revision .given .0 .0) (sym (c .revision .given .1) ∙ c .before .before .read-u16 .ensures)
+
 slice-read-if1 : tie.Need-slice-read-if1
 slice-read-if1 c = search needs
 
--- src/lib.rt:242:9
 refused-requires : tie.Need-refused-requires
 refused-requires c κs = search needs
 
--- src/lib.rt:242:9
 returns : tie.Need-returns
-returns c = ?
+unfolding judgeHello execute pick
+returns c = rw (c .refused .ensures, ne-eqb _ _ (c .before .if1 .taken))
 
--- src/lib.rt:244:35
 read-u16-requires : tie.Need-read-u16-requires
 read-u16-requires c κs = search needs
 
--- src/lib.rt:244:23
 enum-known-revision : tie.Need-enum-known-revision
 enum-known-revision c = search needs
 
--- src/lib.rt:245:9
 enum-told : tie.Need-enum-told
 enum-told c = search needs
 
--- src/lib.rt:245:9
 refused-requires-2 : tie.Need-refused-requires-2
 refused-requires-2 c κs = search needs
 
--- src/lib.rt:245:9
 returns-2 : tie.Need-returns-2
-returns-2 c = ?
+unfolding judgeHello execute pick
+returns-2 c =
+    let r = c .before .before .before in
+    let m = r .before .before .before .before .before .before .before .before .args .m .now in
+    let l = number-missing m 1 (sym (c .before .enum-told .given .1) ∙ r .read-u16 .ensures) in
+    rw (c .refused2 .ensures, eq-eqb _ _ (r .before .if1 .left), lt-leb 3 (length m) (omega arith))
 
--- src/lib.rt:248:9
 greet-requires : tie.Need-greet-requires
 greet-requires c κs = search needs
 
--- src/lib.rt:248:9
 same-length : tie.Need-same-length
 same-length c = search needs
 
--- src/lib.rt:248:9
 same-length-2 : tie.Need-same-length-2
 same-length-2 c = search needs
 
--- src/lib.rt:248:9
 returns-3 : tie.Need-returns-3
-returns-3 c = ?
+unfolding judgeHello pick to-start
+returns-3 c =
+    let k = c .before .before .before .before in
+    let t = k .before .before .before in
+    let r = t .before .before in
+    let h = revision-there r in
+    rw (eq-eqb _ _ (r .before .before .before .if1 .left), le-leb 3 _ (h .0), ← (h .1), eq-eqb _ _ (t .if2 .taken)) (k .greet .ensures)
 
--- src/lib.rt:250:5
 turn-away-requires : tie.Need-turn-away-requires
 turn-away-requires c κs = search needs
 
--- src/lib.rt:228:1
 same-length-3 : tie.Need-same-length-3
 same-length-3 c = search needs
 
--- src/lib.rt:228:1
 same-length-4 : tie.Need-same-length-4
 same-length-4 c = search needs
 
--- src/lib.rt:228:1
 returns-4 : tie.Need-returns-4
-returns-4 c = ?
+unfolding judgeHello pick to-start
+returns-4 c =
+    let k = c .before .before .before .before in
+    let t = k .before .before .before in
+    let r = t .before .before in
+    let h = revision-there r in
+    rw (eq-eqb _ _ (r .before .before .before .if1 .left), le-leb 3 _ (h .0), ← (h .1), ne-eqb _ _ (t .if2 .left)) (k .turn-away .ensures _ _ _)
 
 pub receive-hello-spec : {M : Type 1} → statement M
 receive-hello-spec =

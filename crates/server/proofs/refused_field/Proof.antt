@@ -1,33 +1,35 @@
+use native.Mathlib.Omega.{arith}
+use mathlib.Core.Path.{_≡_, refl, sym, ap, _∙_}
+use Prim.Native.Nat.{ℕ}
+use Rattle.field.specs.declared.Parsed.the-variants.{Refused}
 use borrow.Author.Needs.{needs}
 use Rattle.server.proofs.refused_field.Statement.{statement}
 use Rattle.server.proofs.refused_field.Tie as tie
-use Rattle.server.proofs.refused_field.Reads as reads
-use Rattle.server.proofs.refused_field.Lts as lts
-use Rattle.server.proofs.refused.Reads as refused-reads
 
--- src/lib.rt:472:25
+refused-number : {number number′ place place′ : ℕ} → Refused number place ≡ Refused number′ place′ → number ≡ number′
+refused-number e = cc
+
 enum-known-p : tie.Need-enum-known-p
 enum-known-p c = search needs
 
--- src/lib.rt:472:39
 refused-requires : tie.Need-refused-requires
 refused-requires c κs = search needs
 
--- src/lib.rt:473:29
 enum-told : tie.Need-enum-told
 enum-told c = search needs
 
--- src/lib.rt:473:29
 refused-requires-2 : tie.Need-refused-requires-2
 refused-requires-2 c κs = search needs
 
--- src/lib.rt:468:1
 returns : tie.Need-returns
-returns c = ?
+returns c =
+    λ number place e.
+    let g = c .before .before .p .given in
+    let same : Refused (g .0 .0) (g .0 .1 .0) ≡ Refused number place = sym (g .1) ∙ e in
+    rw (c .refused .ensures, refused-number same)
 
--- src/lib.rt:468:1
 returns-2 : tie.Need-returns-2
-returns-2 c = ?
+returns-2 c = λ number place e. let z : _≡_ {A = ℕ} 0 1 = cc (c .before .enum-told .given .1) in absurd (omega arith)
 
 pub refused-field-spec : {M : Type 1} → statement M
 refused-field-spec =

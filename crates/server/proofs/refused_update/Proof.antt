@@ -1,33 +1,35 @@
+use native.Mathlib.Omega.{arith}
+use mathlib.Core.Path.{_≡_, refl, sym, ap, _∙_}
+use Prim.Native.Nat.{ℕ}
+use Rattle.message.specs.declared.UpdateRead.the-variants.{Refused}
 use borrow.Author.Needs.{needs}
 use Rattle.server.proofs.refused_update.Statement.{statement}
 use Rattle.server.proofs.refused_update.Tie as tie
-use Rattle.server.proofs.refused_update.Reads as reads
-use Rattle.server.proofs.refused_update.Lts as lts
-use Rattle.server.proofs.refused.Reads as refused-reads
 
--- src/lib.rt:208:29
+refused-number : {number number′ place place′ : ℕ} → Refused number place ≡ Refused number′ place′ → number ≡ number′
+refused-number e = cc
+
 enum-known-read : tie.Need-enum-known-read
 enum-known-read c = search needs
 
--- src/lib.rt:208:43
 refused-requires : tie.Need-refused-requires
 refused-requires c κs = search needs
 
--- src/lib.rt:213:14
 enum-told : tie.Need-enum-told
 enum-told c = search needs
 
--- src/lib.rt:213:14
 refused-requires-2 : tie.Need-refused-requires-2
 refused-requires-2 c κs = search needs
 
--- src/lib.rt:204:1
 returns : tie.Need-returns
-returns c = ?
+returns c =
+    λ number place e.
+    let g = c .before .before .read .given in
+    let same : Refused (g .0 .0) (g .0 .1 .0) ≡ Refused number place = sym (g .1) ∙ e in
+    rw (c .refused .ensures, refused-number same)
 
--- src/lib.rt:204:1
 returns-2 : tie.Need-returns-2
-returns-2 c = ?
+returns-2 c = λ number place e. let z : _≡_ {A = ℕ} 0 1 = cc (c .before .enum-told .given .1) in absurd (omega arith)
 
 pub refused-update-spec : {M : Type 1} → statement M
 refused-update-spec =

@@ -1,60 +1,70 @@
+use Prim.Native.Nat.{_+_, _≤_, _<_}
+use native.Mathlib.Omega.{arith}
+use lib.ListN.{length}
+use borrow.Author.Tests.{lt-leb, le-leb}
+use Rattle.field.specs.Choice.{pick}
+use Rattle.message.specs.Layout.{Entry, assignmentBytes}
+use Rattle.message.proofs.ReadBack.{length-assignment}
+use Rattle.table.specs.Table.{tableMemory, storeEntry}
+use Rattle.soundness.proofs.ReadableLaws.{sound-holds}
+use Rattle.server.specs.Step.{execute}
 use borrow.Author.Needs.{needs}
 use Rattle.server.proofs.store_new.Statement.{statement}
 use Rattle.server.proofs.store_new.Tie as tie
-use Rattle.server.proofs.store_new.Reads as reads
-use Rattle.server.proofs.store_new.Lts as lts
-use Rattle.answers.proofs.all_greeted.Reads as all-greeted-reads
-use Rattle.server.proofs.refused.Reads as refused-reads
-use Rattle.table.proofs.store_entry.Reads as store-entry-reads
-use Rattle.writer.proofs.write_assignment.Reads as write-assignment-reads
 
--- src/lib.rt:135:20
+-- the entry that is stored
+abbrev new : tie.Start → Entry
+new s = record { name = s .args .name .now; type = s .args .type-code; number = 1; value = s .args .value .now }
+
 add-if1 : tie.Need-add-if1
 add-if1 c = search needs
 
--- src/lib.rt:135:20
 add-if1-2 : tie.Need-add-if1-2
 add-if1-2 c = search needs
 
--- src/lib.rt:136:9
 refused-requires : tie.Need-refused-requires
 refused-requires c κs = search needs
 
--- src/lib.rt:136:9
 returns : tie.Need-returns
-returns c = ?
+unfolding execute pick
+returns c =
+    let s = c .before .before .before .before .before .before .before .before .before in
+    let id = s .args .count .now in
+    rw (c .refused .ensures, lt-leb (length (assignmentBytes id (new s))) (length (s .args .out .now)) (omega (arith, c .before .if1 .taken, length-assignment id (new s))))
 
--- src/lib.rt:139:9
 all-greeted-requires : tie.Need-all-greeted-requires
 all-greeted-requires c κs = search needs
 
--- src/lib.rt:140:9
 write-assignment-requires : tie.Need-write-assignment-requires
 write-assignment-requires c κs = search needs
 
--- src/lib.rt:141:5
 store-entry-requires : tie.Need-store-entry-requires
-store-entry-requires c κs = ?
+store-entry-requires c κs =
+    let s = c .before .before .before .before .before .before .before .before .before .before .before .before .before .before .before in
+    ((s .pre .1 .0 .0, sound-holds 64 (tableMemory (s .args .heads .now) (s .args .bytes .now) (s .args .count .now)) (s .pre .0)), s .pre .1 .1)
 
--- src/lib.rt:150:14
 add-count : tie.Need-add-count
 add-count c = search needs
 
--- src/lib.rt:118:1
 same-length : tie.Need-same-length
 same-length c = search needs
 
--- src/lib.rt:118:1
 same-length-2 : tie.Need-same-length-2
 same-length-2 c = search needs
 
--- src/lib.rt:118:1
 same-length-3 : tie.Need-same-length-3
 same-length-3 c = search needs
 
--- src/lib.rt:118:1
 returns-2 : tie.Need-returns-2
-returns-2 c = ?
+unfolding execute storeEntry pick
+returns-2 c =
+    let w = c .before .before .before .before in
+    let u = w .before .before .before .before .before in
+    let g = u .before .before in
+    let e = g .before in
+    let s = e .before .before .before .before .before .before .before .before in
+    let id = s .args .count .now in
+    rw (w .store-entry .ensures .0, w .store-entry .ensures .1, u .write-assignment .ensures .0, u .write-assignment .ensures .1, g .all-greeted .ensures, le-leb (length (assignmentBytes id (new s))) (length (s .args .out .now)) (omega (arith, e .if1 .left, length-assignment id (new s))))
 
 pub store-new-spec : {M : Type 1} → statement M
 store-new-spec =

@@ -1,47 +1,51 @@
+use Prim.Native.Nat.{_+_, _≤_, _<_}
+use native.Mathlib.Omega.{arith}
+use lib.ListN.{length}
+use borrow.Author.Tests.{lt-leb, le-leb}
+use Rattle.field.specs.Choice.{pick}
+use Rattle.message.specs.Layout.{updateBytes}
+use Rattle.message.proofs.ReadBack.{length-update}
+use Rattle.table.specs.Table.{storeValue}
+use Rattle.server.specs.Step.{execute}
 use borrow.Author.Needs.{needs}
 use Rattle.server.proofs.store_update.Statement.{statement}
 use Rattle.server.proofs.store_update.Tie as tie
-use Rattle.server.proofs.store_update.Reads as reads
-use Rattle.server.proofs.store_update.Lts as lts
-use Rattle.server.proofs.refused.Reads as refused-reads
-use Rattle.table.proofs.store_value.Reads as store-value-reads
-use Rattle.writer.proofs.write_update.Reads as write-update-reads
 
--- src/lib.rt:174:20
 add-if1 : tie.Need-add-if1
 add-if1 c = search needs
 
--- src/lib.rt:175:9
 refused-requires : tie.Need-refused-requires
 refused-requires c κs = search needs
 
--- src/lib.rt:175:9
 returns : tie.Need-returns
-returns c = ?
+unfolding execute pick
+returns c = λ count marks to h.
+    let a = c .before .before .before .before .before .before .args in
+    rw (c .refused .ensures, lt-leb (length (updateBytes (a .id) (a .number) (a .value .now))) (length (a .out .now)) (omega (arith, c .before .if1 .taken, length-update (a .id) (a .number) (a .value .now))))
 
--- src/lib.rt:177:9
 write-update-requires : tie.Need-write-update-requires
 write-update-requires c κs = search needs
 
--- src/lib.rt:178:5
 store-value-requires : tie.Need-store-value-requires
 store-value-requires c κs = search needs
 
--- src/lib.rt:160:1
 same-length : tie.Need-same-length
 same-length c = search needs
 
--- src/lib.rt:160:1
 same-length-2 : tie.Need-same-length-2
 same-length-2 c = search needs
 
--- src/lib.rt:160:1
 same-length-3 : tie.Need-same-length-3
 same-length-3 c = search needs
 
--- src/lib.rt:160:1
 returns-2 : tie.Need-returns-2
-returns-2 c = ?
+unfolding execute storeValue pick
+returns-2 c = λ count marks to h.
+    let w = c .before .before .before .before in
+    let u = w .before .before .before .before .before in
+    let e = u .before .before in
+    let a = e .before .before .before .before .before .args in
+    rw (w .store-value .ensures .0, w .store-value .ensures .1, u .write-update .ensures .0, u .write-update .ensures .1, h, le-leb (length (updateBytes (a .id) (a .number) (a .value .now))) (length (a .out .now)) (omega (arith, e .if1 .left, length-update (a .id) (a .number) (a .value .now))))
 
 pub store-update-spec : {M : Type 1} → statement M
 store-update-spec =

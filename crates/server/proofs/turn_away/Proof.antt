@@ -1,43 +1,47 @@
+use Prim.Native.Nat.{_≤_, _<_}
+use native.Mathlib.Omega.{arith}
+use lib.ListN.{length}
+use borrow.Author.Tests.{lt-leb, le-leb}
+use Rattle.field.specs.Choice.{pick}
+use Rattle.message.specs.Layout.{revisionBytes}
+use Rattle.message.proofs.ReadBack.{length-revision}
+use Rattle.server.specs.Step.{execute}
 use borrow.Author.Needs.{needs}
 use Rattle.server.proofs.turn_away.Statement.{statement}
 use Rattle.server.proofs.turn_away.Tie as tie
-use Rattle.server.proofs.turn_away.Reads as reads
-use Rattle.server.proofs.turn_away.Lts as lts
-use Rattle.answers.proofs.only_sender.Reads as only-sender-reads
-use Rattle.server.proofs.refused.Reads as refused-reads
-use Rattle.writer.proofs.write_revision.Reads as write-revision-reads
 
--- src/lib.rt:104:9
 refused-requires : tie.Need-refused-requires
 refused-requires c κs = search needs
 
--- src/lib.rt:104:9
 returns : tie.Need-returns
-returns c = ?
+unfolding execute pick
+returns c = λ heads bytes count.
+    let a = c .before .before .before .before .args in
+    rw (c .refused .ensures, lt-leb (length (revisionBytes 2 0x0200)) (length (a .out .now)) (omega (arith, c .before .if1 .taken, length-revision 2 0x0200)))
 
--- src/lib.rt:106:9
 only-sender-requires : tie.Need-only-sender-requires
 only-sender-requires c κs = search needs
 
--- src/lib.rt:107:9
 write-revision-requires : tie.Need-write-revision-requires
 write-revision-requires c κs = search needs
 
--- src/lib.rt:108:5
 slice-write-marks : tie.Need-slice-write-marks
 slice-write-marks c = search needs
 
--- src/lib.rt:99:1
 same-length : tie.Need-same-length
 same-length c = search needs
 
--- src/lib.rt:99:1
 same-length-2 : tie.Need-same-length-2
 same-length-2 c = search needs
 
--- src/lib.rt:99:1
 returns-2 : tie.Need-returns-2
-returns-2 c = ?
+unfolding execute pick
+returns-2 c = λ heads bytes count.
+    let u = c .before .before in
+    let g = u .before .before in
+    let e = g .before .before in
+    let a = e .before .before .before .args in
+    rw (u .write-revision .ensures .0, u .write-revision .ensures .1, g .only-sender .ensures, le-leb (length (revisionBytes 2 0x0200)) (length (a .out .now)) (omega (arith, e .if1 .left, length-revision 2 0x0200)))
 
 pub turn-away-spec : {M : Type 1} → statement M
 turn-away-spec =

@@ -15,10 +15,6 @@ use Rattle.table.proofs.TabulateLaws.{length-tabulate, getD-tabulate}
 use borrow.Author.Needs.{needs}
 use Rattle.table.proofs.read_held_update.Statement.{statement}
 use Rattle.table.proofs.read_held_update.Tie as tie
-use Rattle.table.proofs.read_held_update.Reads as reads
-use Rattle.table.proofs.read_held_update.Lts as lts
-use Rattle.field.proofs.read_u16.Reads as read-u16-reads
-use Rattle.message.proofs.read_update.Reads as read-update-reads
 
 to-start : tie.After-id → tie.Start
 to-start c = c .before .before .before .before .before .before
