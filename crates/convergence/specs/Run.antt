@@ -1,11 +1,10 @@
 -- "The run in demand 3".
-use Prim.Native.Nat.{ℕ, zero, suc, _<_}
-use mathlib.Core.Bool.{Bool, true, false, _&&_, _||_}
+use Prim.Native.Nat.{ℕ, _<_}
+use mathlib.Core.Bool.{Bool, false, _&&_}
 use mathlib.Core.List.{List, [], _∷_, _++_}
-use mathlib.Core.Option.{Option, none, some}
 use mathlib.Core.Path.{_≡_}
 use mathlib.Core.Logic.{_⊎_}
-use lib.ListN.{length, take, drop, getD}
+use lib.ListN.{length, take, drop}
 use lib.Dec.{eqb}
 use Rattle.field.specs.Answer.{done, ignored}
 use Rattle.field.specs.Choice.{pick}
@@ -14,7 +13,7 @@ use Rattle.table.specs.Table.{TableMemory, entryAt}
 use Rattle.answers.specs.Recipients.{testBit}
 use Rattle.server.specs.Judge.{Call, openConnection, leave, clientMessage, localCreate, localWrite, readEntry, revision2}
 use Rattle.server.specs.Step.{ServerMemory, LentCall, CallResult, callStep, freshStart}
-use Rattle.client.specs.Copy.{CopyResult, copyMessage}
+use Rattle.client.specs.Copy.{copyMessage}
 
 -- memory after a run of calls
 unfoldable pub memoryAfterRun : ℕ → ServerMemory → List LentCall → ServerMemory

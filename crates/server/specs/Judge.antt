@@ -1,9 +1,8 @@
 -- What a call comes to, before the room for its output is looked at: "The order in which a message is judged", "What each message does".
 use Prim.Native.Nat.{ℕ, _+_}
-use mathlib.Core.Bool.{Bool}
 use mathlib.Core.List.{List}
 use lib.ListN.{length, take, drop, getD}
-use lib.Dec.{leb, ltb, eqb}
+use lib.Dec.{ltb, eqb}
 use Rattle.field.specs.Answer.{incomplete, connectionTooHigh, wrongState, unknownKind, unknownId, tableFull, nameTaken}
 use Rattle.field.specs.Choice.{pick}
 use Rattle.field.specs.Octets.{decode16}

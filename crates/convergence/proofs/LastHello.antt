@@ -1,0 +1,58 @@
+-- "the last such hello counts": after an accepted hello of a client that does not leave, none of its hellos is accepted.
+use mathlib.Core.Path.{_≡_}
+use mathlib.Core.List.{List, [], _∷_, _++_}
+use Prim.Native.Nat.{ℕ, _<_}
+use native.Mathlib.Omega.{arith}
+use lib.ListN.{getD}
+use Rattle.field.proofs.ChoiceLaws.{by-test}
+use Rattle.table.specs.Table.{entriesOf}
+use Rattle.server.specs.Judge.{Verdict, refuse, acceptHello}
+use Rattle.server.specs.Step.{ServerMemory, LentCall, CallResult, execute, callStep, freshStart}
+use Rattle.convergence.specs.Run.{memoryAfterRun, afterStartAndCalls, helloCall, StaysWithoutOwnUpdate}
+use Rattle.convergence.proofs.ServerSound.{SoundMemory, sound-kept, start-sound}
+use Rattle.convergence.proofs.RunLaws.{sound-run, run-follows}
+use Rattle.convergence.proofs.HelloLaws.{HelloIs, hello-is, hello-accepted}
+
+record NotDone (r : CallResult) : Type 0 where
+  at-done : r .number ≡ 0 → ⊥
+
+hello-refused : (mem : ServerMemory) (c : ℕ) (out : List ℕ) (v : Verdict) → HelloIs (mem .marks) c v → getD (mem .marks) c 0 ≡ 2 → NotDone (execute mem out v)
+unfolding execute
+hello-refused mem c out (refuse number) (HelloIs.refused h) g = record { at-done = λ e. omega arith }
+hello-refused mem c out (acceptHello d) (HelloIs.welcomed h) g = absurd (omega arith)
+
+-- "Hello: open connections only (3 if greeted)": a hello of a greeted client is not answered 0, whatever the table holds
+pub no-second-hello : (limit : ℕ) (mem : ServerMemory) (c : ℕ) (rest out : List ℕ) → getD (mem .marks) c 0 ≡ 2
+    → callStep limit mem (helloCall c rest out) .number ≡ 0 → ⊥
+unfolding callStep
+no-second-hello limit mem c rest out g e = step .at-done e
+  where
+    step : NotDone (callStep limit mem (helloCall c rest out))
+    step =
+        by-test NotDone _ _ _
+        (λ _. hello-refused mem c out _ (hello-is limit (entriesOf (mem .table)) (mem .marks) c rest) g)
+        (λ _. record { at-done = λ q. omega arith })
+
+-- a greeted client stays greeted in a run in which it does not leave
+pub stays-greeted : (limit : ℕ) (mem : ServerMemory) (c : ℕ) (ks : List LentCall) → SoundMemory limit mem → c < 16 → getD (mem .marks) c 0 ≡ 2
+    → StaysWithoutOwnUpdate limit mem c ks → getD (memoryAfterRun limit mem ks .marks) c 0 ≡ 2
+stays-greeted limit mem c ks s b g q = run-follows limit mem c ks s b g q .0
+
+stays-front : (limit : ℕ) (mem : ServerMemory) (c : ℕ) (ks ls : List LentCall) → StaysWithoutOwnUpdate limit mem c (ks ++ ls) → StaysWithoutOwnUpdate limit mem c ks
+unfolding StaysWithoutOwnUpdate
+stays-front limit mem c [] ls q = tt
+stays-front limit mem c (k ∷ ks) ls q = (q .0, stays-front limit (callStep limit mem k .memory) c ks ls (q .1))
+
+-- under demand 3's hypotheses, a later hello of the client, between some calls and others, is not accepted
+pub last-hello-counts : (limit : ℕ) (mem : ServerMemory) → freshStart limit mem .number ≡ 0 → (before : List LentCall) (c : ℕ) → c < 16 → (rest out : List ℕ)
+    → callStep limit (afterStartAndCalls limit mem before) (helloCall c rest out) .number ≡ 0
+    → (some : List LentCall) (rest′ out′ : List ℕ) (others : List LentCall)
+    → StaysWithoutOwnUpdate limit (callStep limit (afterStartAndCalls limit mem before) (helloCall c rest out) .memory) c (some ++ (helloCall c rest′ out′ ∷ others))
+    → callStep limit (memoryAfterRun limit (callStep limit (afterStartAndCalls limit mem before) (helloCall c rest out) .memory) some) (helloCall c rest′ out′) .number ≡ 0 → ⊥
+last-hello-counts limit mem started before c b rest out e some rest′ out′ others q =
+    let now = afterStartAndCalls limit mem before in
+    let s : SoundMemory limit now = sound-run limit (freshStart limit mem .memory) before (start-sound limit mem started) in
+    let next = callStep limit now (helloCall c rest out) .memory in
+    let g : getD (next .marks) c 0 ≡ 2 = hello-accepted limit now s c b rest out .at-done e .1 in
+    no-second-hello limit (memoryAfterRun limit next some) c rest′ out′
+    (stays-greeted limit next c some (sound-kept limit now s (helloCall c rest out)) b g (stays-front limit next c some (helloCall c rest′ out′ ∷ others) q))
