@@ -2,7 +2,9 @@
 use mathlib.Core.Path.{_≡_, refl}
 use mathlib.Core.Bool.{Bool, true, false}
 use mathlib.Core.List.{List, [], _∷_, map}
-use Prim.Native.Nat.{ℕ, _+_, _≤_, _<_}
+use Prim.Native.Nat.{ℕ, suc, _+_, _≤_, _<_}
+use native.Mathlib.Omega.{arith}
+use borrow.Author.Tests.{le-leb}
 use native.Mathlib.Numerals.{add-one}
 use lib.ListN.{length, drop, getD, drop-of-length-le}
 use lib.Seq.{drop-cons}
@@ -18,6 +20,12 @@ utf8-step e s i h = rw (add-one, drop-cons s i 0 h)
 pub utf8-end : (e : Expected) (s : List ℕ) (i : ℕ) → length s ≤ i → utf8From e (drop i s) ≡ isBoundary e
 unfolding utf8From
 utf8-end e s i h = rw (drop-of-length-le s h)
+
+-- bytes that are each a character of their own
+pub ascii-utf8 : (s : List ℕ) → ((i : ℕ) → i < length s → getD s i 0 ≤ 0x7F) → isUtf8 s ≡ true
+unfolding isUtf8 utf8From afterByte afterFirst pick
+ascii-utf8 [] h = refl
+ascii-utf8 (b ∷ s) h = rw (le-leb b 0x7F (h 0 (omega arith))) (ascii-utf8 s (λ i l. h (suc i) (omega arith)))
 
 -- "F4 8F BF BF is accepted. C0 80, ED A0 80 and F4 90 80 80 are refused. A zero byte is text."
 pub marked-texts : map isUtf8 ((0xF4 ∷ 0x8F ∷ 0xBF ∷ 0xBF ∷ []) ∷ (0xC0 ∷ 0x80 ∷ []) ∷ (0xED ∷ 0xA0 ∷ 0x80 ∷ []) ∷ (0xF4 ∷ 0x90 ∷ 0x80 ∷ 0x80 ∷ []) ∷ (0 ∷ []) ∷ [] ∷ [])

@@ -5,6 +5,8 @@ use field::Number;
 use field::Parsed;
 use field::TOO_LONG;
 ghost use mathlib.Core.Path.{_≡_};
+ghost use mathlib.Core.Bool.{true};
+ghost use Prim.Native.Nat.{_≤_};
 ghost use Rattle.text.specs.Utf8.{afterFirst, afterByte, isBoundary, isUtf8};
 ghost use Rattle.text.specs.Text.{parseText};
 
@@ -83,8 +85,27 @@ fn is_boundary(e: Expected) -> bool
     }
 }
 
-// Whether all bytes together are UTF-8.
-pub fn is_utf8(s: &[u8]) -> bool
+fn larger(a: u8, b: u8) -> u8
+    ensures { λ r. ⌜ (a ≤ r) × (b ≤ r) ⌝ }
+{
+    if a < b { b } else { a }
+}
+
+// Whether every byte is a character of its own: one pass with no way out, which the compiler does many bytes at a time.
+fn is_ascii(s: &[u8]) -> bool
+    ensures { λ r. ⌜ (r ≡ true → isUtf8 (now (s .entry)) ≡ true) ⌝ }
+{
+    let mut most: u8 = 0;
+    let mut i = 0;
+    while i < s.len() {
+        most = larger(most, s[i]);
+        i += 1;
+    }
+    most <= 0x7F
+}
+
+// Whether all bytes together are UTF-8, character by character.
+fn is_utf8_by_character(s: &[u8]) -> bool
     ensures { λ r. ⌜ r ≡ isUtf8 (now (s .entry)) ⌝ }
 {
     let mut e = Expected::Boundary;
@@ -94,6 +115,16 @@ pub fn is_utf8(s: &[u8]) -> bool
         i += 1;
     }
     is_boundary(e)
+}
+
+// Whether all bytes together are UTF-8.
+pub fn is_utf8(s: &[u8]) -> bool
+    ensures { λ r. ⌜ r ≡ isUtf8 (now (s .entry)) ⌝ }
+{
+    if is_ascii(s) {
+        return true;
+    }
+    is_utf8_by_character(s)
 }
 
 // A text behind its length, where `size_so_far` bytes came before it and all together may be `max_size`.
