@@ -14,7 +14,7 @@ use Rattle.message.specs.Layout.{Entry, WellFormed, assignmentBytes}
 use Rattle.message.proofs.ReadBack.{length-assignment, longest-assignment}
 use Rattle.table.specs.Table.{Readable, headField, entryAt, tabulate}
 use Rattle.table.proofs.TabulateLaws.{length-tabulate}
-use Rattle.table.proofs.SearchLaws.{name-fits, name-length, named-less}
+use Rattle.table.proofs.SearchLaws.{name-fits, name-length, readable-less, value-fits, value-length}
 use Rattle.answers.specs.Hello.{helloAnswer}
 
 -- ---- the answer as a loop writes it
@@ -88,23 +88,6 @@ length-hello id (e ∷ es) d h =
     omega (arith, length-append (assignmentBytes id e) (helloAnswer (suc id) es), longest-assignment id e (h 0 (omega arith)), length-hello (suc id) es d (λ i l. h (suc i) (omega arith)))
 
 -- ---- the entries of a lent table
-
-pub readable-less : (n : ℕ) (heads bytes : List ℕ) (i : ℕ) → i ≤ n → Readable n heads bytes → Readable i heads bytes
-readable-less n heads bytes i l r =
-    record {
-      named = named-less n heads bytes i l (r .named);
-      values-fit = λ j h. r .values-fit j (omega arith);
-      types-fit = λ j h. r .types-fit j (omega arith);
-    }
-
-pub value-fits : (n : ℕ) (heads bytes : List ℕ) (i : ℕ) → Readable n heads bytes → i < n → getD heads (4 * i + 1) 0 ≤ 256
-value-fits n heads bytes i r l = r .values-fit i l
-
-pub value-length : (n : ℕ) (heads bytes : List ℕ) (i : ℕ) → Readable n heads bytes → i < n → length (entryAt heads bytes i .value) ≡ getD heads (4 * i + 1) 0
-unfolding entryAt
-value-length n heads bytes i r l =
-    length-take-le (headField heads i 1) (drop (320 * i + 64) bytes)
-    (omega (arith, r .values-fit i l, r .named .holds .bytes-hold, length-drop (320 * i + 64) bytes))
 
 -- an assignment's length, by the heads alone
 pub length-entry : (n : ℕ) (heads bytes : List ℕ) (i : ℕ) → Readable n heads bytes → i < n

@@ -22,10 +22,11 @@ use Rattle.answers.specs.Hello.{helloAnswer}
 use Rattle.server.specs.Judge.{Call, leave, clientMessage, Verdict, refuse, ignore, readDone, openMark, closeMark, acceptHello, unsupportedRevision, storeNew, storeUpdate, revision2, judge}
 use Rattle.server.specs.Step.{ServerMemory, LentCall, CallResult, answer, withMark, withTable, execute, callStep}
 use Rattle.convergence.specs.Run.{addressedByCall, leavesOrUpdates}
-use Rattle.convergence.proofs.RecipientsLaws.{recipient-bit}
-use Rattle.convergence.proofs.StoredSound.{count-is, stored-new, stored-value}
-use Rattle.convergence.proofs.JudgeLaws.{SentTo, local-write, client-update, VerdictIs, verdict-is}
-use Rattle.convergence.proofs.ServerSound.{SoundMemory, step-is}
+use Rattle.answers.proofs.RecipientLaws.{recipient-bit}
+use Rattle.table.proofs.TabulateLaws.{length-entries}
+use Rattle.soundness.proofs.StoredLaws.{stored-new, stored-value}
+use Rattle.server.proofs.JudgeLaws.{SentTo, local-write, client-update, VerdictIs, verdict-is}
+use Rattle.server.proofs.SoundnessLaws.{SoundMemory, step-is}
 use Rattle.convergence.proofs.Leads.{Leads, leads-none, leads-assignment, leads-update}
 
 -- ---- the bytes that are addressed to a client
@@ -112,7 +113,7 @@ module _ (limit : ℕ) (call : Call) (mem : ServerMemory) (s : SoundMemory limit
       follows-answer out taken (assignmentBytes (mem .table .count) e) allGreeted (withTable mem (storeEntry (mem .table) e)) (λ c g q.
       rw g (record {
         greeted = g;
-        leads = rw (stored-new limit (mem .table) (s .table) e w new room) (rw (count-is (mem .table)) at (leads-assignment limit (entriesOf (mem .table)) e w new room));
+        leads = rw (stored-new limit (mem .table) (s .table) e w new room) (rw (length-entries (mem .table)) at (leads-assignment limit (entriesOf (mem .table)) e w new room));
       }))
 
   follows-update : (out : List ℕ) (taken id number : ℕ) (value : List ℕ) (to : Recipients) → id < length (entriesOf (mem .table))

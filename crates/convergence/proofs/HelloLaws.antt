@@ -19,8 +19,8 @@ use Rattle.answers.specs.Hello.{helloAnswer}
 use Rattle.server.specs.Judge.{clientMessage, Verdict, refuse, acceptHello, revision2, judgeHello, judgeMessage, judge}
 use Rattle.server.specs.Step.{ServerMemory, CallResult, withMark, execute, callStep}
 use Rattle.convergence.specs.Run.{addressedByCall, helloCall}
-use Rattle.convergence.proofs.StoredSound.{sound-all, sound-differ, sound-count}
-use Rattle.convergence.proofs.ServerSound.{SoundMemory, step-is}
+use Rattle.soundness.proofs.StoredLaws.{entries-well-formed, entries-differ, entries-fit}
+use Rattle.server.proofs.SoundnessLaws.{SoundMemory, step-is}
 use Rattle.convergence.proofs.Leads.{Leads, leads-hello}
 use Rattle.convergence.proofs.CallLaws.{addressed-done}
 
@@ -66,7 +66,7 @@ accepted-hello limit mem s c b out (acceptHello d) (welcomed h) =
         → Leads limit [] (addressedByCall c (record { number = 0; taken = 3; sent = length bytes; recipients = recipientSet (sender c) (mem .marks); memory = withMark mem c 2; output = overwriteAt out 0 bytes })) (entriesOf (mem .table))
     told room =
         rw (addressed-done c 3 out bytes (sender c) (mem .marks) (withMark mem c 2) b room, eq-eqb c c refl, pick-true bytes [] refl)
-        (leads-hello limit [] (entriesOf (mem .table)) (sound-all limit (mem .table) (s .table)) (sound-differ limit (mem .table) (s .table)) (omega (arith, sound-count limit (mem .table) (s .table))))
+        (leads-hello limit [] (entriesOf (mem .table)) (entries-well-formed limit (mem .table) (s .table)) (entries-differ limit (mem .table) (s .table)) (omega (arith, entries-fit limit (mem .table) (s .table))))
 
 pub hello-accepted : (limit : ℕ) (mem : ServerMemory) → SoundMemory limit mem → (c : ℕ) → c < 16 → (rest out : List ℕ)
     → Accepted limit mem c (callStep limit mem (helloCall c rest out))

@@ -91,4 +91,4 @@ computed =
 instance : CopyHoldsServerEntries 2 (copyFreshStart 2 staleCopy .memory) (addressedBytes 2 (afterStartAndCalls 2 stale before) 1 (greeting ∷ after))
     (afterStartAndCalls 2 stale (before ++ (greeting ∷ after)) .table)
 instance =
-    demand-3 2 stale (computed .started) before 1 (omega arith) (7 ∷ []) (replicate 40 1) after (computed .accepted) (computed .stays) staleCopy (computed .copy-started)
+    demand-3 2 stale (computed .started) before 1 (omega arith) (7 ∷ []) (replicate 40 1) (computed .accepted) after (computed .stays) staleCopy (computed .copy-started)

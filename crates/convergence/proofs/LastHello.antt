@@ -9,7 +9,7 @@ use Rattle.table.specs.Table.{entriesOf}
 use Rattle.server.specs.Judge.{Verdict, refuse, acceptHello}
 use Rattle.server.specs.Step.{ServerMemory, LentCall, CallResult, execute, callStep, freshStart}
 use Rattle.convergence.specs.Run.{memoryAfterRun, afterStartAndCalls, helloCall, StaysWithoutOwnUpdate}
-use Rattle.convergence.proofs.ServerSound.{SoundMemory, sound-kept, start-sound}
+use Rattle.server.proofs.SoundnessLaws.{SoundMemory, sound-kept, start-sound}
 use Rattle.convergence.proofs.RunLaws.{sound-run, run-follows}
 use Rattle.convergence.proofs.HelloLaws.{HelloIs, hello-is, hello-accepted}
 

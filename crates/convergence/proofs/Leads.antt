@@ -11,13 +11,14 @@ use Rattle.value.specs.Value.{IsValue}
 use Rattle.message.specs.Layout.{Entry, WellFormed, helloCompleteKind, assignmentBytes, updateBytes}
 use Rattle.message.proofs.ReadBack.{length-assignment, length-update}
 use Rattle.table.specs.Names.{nameHeld, namesDiffer}
-use Rattle.table.specs.Table.{TableMemory, defaultEntry, withNumberAndValue}
+use Rattle.table.specs.Table.{TableMemory, defaultEntry}
+use Rattle.table.proofs.StoreLaws.{withNumberAndValue}
 use Rattle.table.proofs.NamesLaws.{differ-last, held-append}
 use Rattle.answers.specs.Hello.{helloAnswer}
 use Rattle.client.specs.Copy.{copyMessage}
 use Rattle.convergence.specs.Run.{ReadsInto, none-left, one-read}
-use Rattle.convergence.proofs.StoredSound.{AllWellFormed}
-use Rattle.convergence.proofs.CopyLaws.{Holding, Takes, copies-complete, copies-assignment, copies-update}
+use Rattle.soundness.proofs.StoredLaws.{AllWellFormed}
+use Rattle.client.proofs.CopyLaws.{Holding, Takes, copies-complete, copies-assignment, copies-update}
 
 -- all the bytes are read, and the copy then holds these entries
 pub record Reaches (limit : ℕ) (m : TableMemory) (bytes : List ℕ) (es : List Entry) : Type 0 where

@@ -1,9 +1,3 @@
-pub mod RefusalLaws
-pub mod RecipientsLaws
-pub mod StoredSound
-pub mod JudgeLaws
-pub mod CopyLaws
-pub mod ServerSound
 pub mod Leads
 pub mod CallLaws
 pub mod RunLaws
@@ -12,4 +6,3 @@ pub mod ReadingLaws
 pub mod Theorem
 pub mod Instance
 pub mod LastHello
-pub mod AnswerLaws

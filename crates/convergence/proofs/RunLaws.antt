@@ -6,7 +6,7 @@ use lib.ListN.{getD}
 use Rattle.table.specs.Table.{entriesOf}
 use Rattle.server.specs.Step.{ServerMemory, LentCall, callStep}
 use Rattle.convergence.specs.Run.{memoryAfterRun, addressedBytes, StaysWithoutOwnUpdate}
-use Rattle.convergence.proofs.ServerSound.{SoundMemory, sound-kept}
+use Rattle.server.proofs.SoundnessLaws.{SoundMemory, sound-kept}
 use Rattle.convergence.proofs.Leads.{Leads, leads-none, leads-join}
 use Rattle.convergence.proofs.CallLaws.{call-follows}
 

@@ -10,18 +10,18 @@ use Rattle.table.specs.Table.{TableMemory, entriesOf, defaultEntry}
 use Rattle.soundness.specs.Sound.{soundTable}
 use Rattle.server.specs.Step.{ServerMemory, LentCall, callStep, freshStart}
 use Rattle.client.specs.Copy.{copyFreshStart}
-use Rattle.convergence.specs.Run.{memoryAfterRun, afterStartAndCalls, addressedBytes, helloCall, StaysWithoutOwnUpdate, SameEntries, CopyHoldsServerEntries}
-use Rattle.convergence.proofs.StoredSound.{count-is, entry-is}
-use Rattle.convergence.proofs.CopyLaws.{copy-start-sound}
-use Rattle.convergence.proofs.ServerSound.{SoundMemory, sound-kept, start-sound}
+use Rattle.convergence.specs.Run.{memoryAfterRun, afterStartAndCalls, addressedBytes, helloCall, StaysWithoutOwnUpdate, SameEntries, CopyHoldsServerEntries, Demand3}
+use Rattle.table.proofs.TabulateLaws.{length-entries, entry-get}
+use Rattle.client.proofs.CopyLaws.{copy-start-sound}
+use Rattle.server.proofs.SoundnessLaws.{SoundMemory, sound-kept, start-sound}
 use Rattle.convergence.proofs.Leads.{leads-join, leads-end}
 use Rattle.convergence.proofs.RunLaws.{sound-run, run-append, run-follows}
 use Rattle.convergence.proofs.HelloLaws.{hello-accepted}
 
 same-entries : (a b : TableMemory) → entriesOf a ≡ entriesOf b → SameEntries a b
 same-entries a b e =
-    let n : a .count ≡ b .count = sym (count-is a) ∙ ap length e ∙ count-is b in
-    record { counts = n; entries = λ id l. sym (entry-is a id (omega arith)) ∙ ap (λ (es : List Entry). getD es id defaultEntry) e ∙ entry-is b id l }
+    let n : a .count ≡ b .count = sym (length-entries a) ∙ ap length e ∙ length-entries b in
+    record { counts = n; entries = λ id l. sym (entry-get a id defaultEntry (omega arith)) ∙ ap (λ (es : List Entry). getD es id defaultEntry) e ∙ entry-get b id defaultEntry l }
 
 -- from any sound memory
 since-hello : (limit : ℕ) (mem : ServerMemory) → SoundMemory limit mem → (c : ℕ) → c < 16 → (rest out : List ℕ) (after : List LentCall)
@@ -37,18 +37,8 @@ since-hello limit mem s c b rest out after e q copy sound empty =
     let reached = leads-end limit [] _ _ (leads-join limit [] _ _ _ _ (hello .2) (others .1)) copy (record { sound = sound; held = empty }) in
     record { end = reached .end; reads = reached .reads; same = same-entries (reached .end) _ (reached .holds .held) }
 
--- DEMAND 3. On server memory with any contents, after a fresh start that answered 0: any calls (before), each lent any output; then
--- c's hello for 0x0200, answered 0; then any calls (after), of which none that is answered 0 is c's leaving or c's own update.
--- On copy memory with any contents, after its fresh start that answered 0: reading the bytes addressed to c, message by message,
--- refuses nothing, and the copy then holds the server's entries.
-pub demand-3 : (limit : ℕ) (mem : ServerMemory) → freshStart limit mem .number ≡ 0 → (before : List LentCall) (c : ℕ) → c < 16 → (rest out : List ℕ) (after : List LentCall)
-    → callStep limit (afterStartAndCalls limit mem before) (helloCall c rest out) .number ≡ 0
-    → StaysWithoutOwnUpdate limit (callStep limit (afterStartAndCalls limit mem before) (helloCall c rest out) .memory) c after
-    → (copy : TableMemory) → copyFreshStart limit copy .number ≡ 0
-    → CopyHoldsServerEntries limit (copyFreshStart limit copy .memory)
-    (addressedBytes limit (afterStartAndCalls limit mem before) c (helloCall c rest out ∷ after))
-    (afterStartAndCalls limit mem (before ++ (helloCall c rest out ∷ after)) .table)
-demand-3 limit mem started before c b rest out after e q copy copy-started =
+pub demand-3 : Demand3
+demand-3 limit mem started before c b rest out e after q copy copy-started =
     let now = sound-run limit (freshStart limit mem .memory) before (start-sound limit mem started) in
     let fresh = copy-start-sound limit copy copy-started in
     rw (run-append limit (freshStart limit mem .memory) before (helloCall c rest out ∷ after))

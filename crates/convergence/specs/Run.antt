@@ -13,7 +13,8 @@ use Rattle.table.specs.Table.{TableMemory, entryAt}
 use Rattle.answers.specs.Recipients.{testBit}
 use Rattle.server.specs.Judge.{Call, openConnection, leave, clientMessage, localCreate, localWrite, readEntry, revision2}
 use Rattle.server.specs.Step.{ServerMemory, LentCall, CallResult, callStep, freshStart}
-use Rattle.client.specs.Copy.{copyMessage}
+use Rattle.soundness.specs.Sound.{connections}
+use Rattle.client.specs.Copy.{copyMessage, copyFreshStart}
 
 -- memory after a run of calls
 unfoldable pub memoryAfterRun : ℕ → ServerMemory → List LentCall → ServerMemory
@@ -72,3 +73,22 @@ pub record CopyHoldsServerEntries (limit : ℕ) (copy : TableMemory) (bytes : Li
   pub end : TableMemory
   pub reads : ReadsInto limit copy bytes end
   pub same : SameEntries end server
+
+-- Demand 3, "a single statement about the whole run"
+abbrev pub Demand3 : Type 0
+Demand3 =
+    (limit : ℕ)
+    -- "It begins after a fresh start that answered 0, on memory with any contents."
+    (mem : ServerMemory) → freshStart limit mem .number ≡ done
+    -- any calls, each lent "an output of any length"
+    → (before : List LentCall)
+    -- "A client is a connection, 0 to 15. Its hello is accepted where its message is a hello for 0x0200 and the answer is 0"
+    → (c : ℕ) → c < connections → (rest out : List ℕ) → callStep limit (afterStartAndCalls limit mem before) (helloCall c rest out) .number ≡ done
+    -- any calls, in which it has not left and no own update of it is applied
+    → (after : List LentCall) → StaysWithoutOwnUpdate limit (callStep limit (afterStartAndCalls limit mem before) (helloCall c rest out) .memory) c after
+    -- "The empty copy is a copy after its fresh start, on large enough memory with any contents."
+    → (copy : TableMemory) → copyFreshStart limit copy .number ≡ done
+    -- the bytes "from the accepted hello's call on and with that call" are read, and the copy holds the server's entries
+    → CopyHoldsServerEntries limit (copyFreshStart limit copy .memory)
+    (addressedBytes limit (afterStartAndCalls limit mem before) c (helloCall c rest out ∷ after))
+    (afterStartAndCalls limit mem (before ++ (helloCall c rest out ∷ after)) .table)

@@ -1,4 +1,4 @@
--- Laws of fields that are there.
+-- Laws of fields that are there, and of a reader's refusal.
 use mathlib.Core.Path.{_≡_, refl, sym, ap, _∙_}
 use mathlib.Core.List.{List}
 use Prim.Native.Nat.{ℕ, _+_, _≤_, _<_}
@@ -7,6 +7,8 @@ use borrow.Author.Tests.{leb-true, leb-false}
 use Rattle.field.specs.Choice.{pick}
 use Rattle.field.specs.Octets.{decode16}
 use Rattle.field.specs.Field.{octetAt, numberAt}
+use Rattle.field.specs.declared.Parsed.{Parsed}
+use Rattle.field.specs.declared.Parsed.the-variants.{Refused}
 use Rattle.field.specs.declared.Octet.{Octet}
 use Rattle.field.specs.declared.Octet.the-variants as O
 use Rattle.field.specs.declared.Number.{Number}
@@ -53,3 +55,7 @@ number-missing s at e = go (rw (← e) at (number-is s at))
   where
     go : NumberIs s at N.Missing → length s < at + 2
     go (NumberIs.missing h) = h
+
+-- a refused answer determines its number
+pub refused-number : {r : Parsed} {number place number′ place′ : ℕ} → r ≡ Refused number place → r ≡ Refused number′ place′ → number ≡ number′
+refused-number e f = cc

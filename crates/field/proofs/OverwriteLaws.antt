@@ -1,12 +1,13 @@
 -- Laws of `overwriteAt`.
 use mathlib.Core.Path.{_≡_, refl, sym, ap, _∙_}
+use mathlib.Core.Logic.{_≢_}
 use mathlib.Core.List.{List, [], _∷_, _++_, append-assoc}
 use Prim.Native.Nat.{ℕ, zero, suc, _+_, _-_, _≤_, _<_}
 use native.Mathlib.Nat.{add-zero, add-suc, suc-add}
 use native.Mathlib.Numerals.{add-one}
 use native.Mathlib.Omega.{arith}
 use lib.ListN.{length, take, drop, set, getD, length-append, length-set, length-take, length-drop, take-append-drop}
-use lib.Seq.{take-suc, take-set-le, drop-set-add, drop-set-lt, take-suc-set, set-append-left, length-take-le}
+use lib.Seq.{take-suc, take-set-le, drop-set-add, drop-set-lt, take-suc-set, set-append-left, length-take-le, getD-set-same, getD-set-other}
 use Rattle.field.specs.Octets.{overwriteAt}
 
 pub length-overwrite : (xs : List ℕ) (at : ℕ) (ys : List ℕ) → length (overwriteAt xs at ys) ≡ length xs
@@ -37,6 +38,29 @@ unfolding overwriteAt
 overwrite-more xs at s j h =
     let more : take (j + 1) s ≡ take j s ++ (getD s j 0 ∷ []) = rw add-one (take-suc s j 0 h) in
     overwrite-append xs at (take j s) (getD s j 0 ∷ []) (at + j) (omega (arith, length-take-le j s (omega arith))) ∙ ap (overwriteAt xs at) (sym more)
+
+-- ---- one place of what is stored
+
+-- p is none of the n places from `from` on
+abbrev pub Outside : ℕ → ℕ → ℕ → Type 0
+Outside from n p = (k : ℕ) → k < n → p ≢ from + k
+
+pub overwrite-outside : (xs : List ℕ) (at : ℕ) (ys : List ℕ) (p : ℕ) → Outside at (length ys) p → getD (overwriteAt xs at ys) p 0 ≡ getD xs p 0
+unfolding overwriteAt
+overwrite-outside xs at [] p h = refl
+overwrite-outside xs at (y ∷ ys) p h =
+    overwrite-outside (set xs at y) (at + 1) ys p (λ k l. omega (arith, h (suc k) (omega arith)))
+    ∙ getD-set-other xs at p y 0 (omega (arith, h 0 (omega arith)))
+
+pub overwrite-inside : (xs : List ℕ) (at : ℕ) (ys : List ℕ) (j : ℕ) → at + length ys ≤ length xs → j < length ys
+    → getD (overwriteAt xs at ys) (at + j) 0 ≡ getD ys j 0
+unfolding overwriteAt
+overwrite-inside xs at [] j fits h = absurd (omega arith)
+overwrite-inside xs at (y ∷ ys) zero fits h =
+    rw add-zero (overwrite-outside (set xs at y) (at + 1) ys at (λ k l. omega arith) ∙ getD-set-same xs at y 0 (omega arith))
+overwrite-inside xs at (y ∷ ys) (suc j) fits h =
+    let e : at + suc j ≡ at + 1 + j = omega arith in
+    rw e (overwrite-inside (set xs at y) (at + 1) ys j (simp length-set (omega arith)) (omega arith))
 
 -- ---- a store into a part that was lent, seen in the whole
 

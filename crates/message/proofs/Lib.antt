@@ -1,3 +1,4 @@
 pub mod ReaderLaws
 pub mod ReadBack
 pub mod TakenLaws
+pub mod RefusalLaws

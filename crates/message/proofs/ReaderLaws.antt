@@ -81,3 +81,11 @@ update-id held typeOf m id q v e = go (rw (← e) at (id-is held typeOf m))
   where
     go : IdIs m (U.Update id q v) → id ≡ decode16 (drop 1 m)
     go (taken h) = h
+
+-- ---- a refused answer determines its number
+
+pub refused-assignment-number : {r : AssignmentRead} {number place number′ place′ : ℕ} → r ≡ A.Refused number place → r ≡ A.Refused number′ place′ → number ≡ number′
+refused-assignment-number e f = cc
+
+pub refused-update-number : {r : UpdateRead} {number place number′ place′ : ℕ} → r ≡ U.Refused number place → r ≡ U.Refused number′ place′ → number ≡ number′
+refused-update-number e f = cc

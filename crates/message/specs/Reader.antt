@@ -5,7 +5,7 @@ use mathlib.Core.List.{List}
 use mathlib.Core.Option.{Option, none, some}
 use lib.ListN.{take, drop, getD}
 use lib.Dec.{eqb}
-use Rattle.field.specs.Answer.{incomplete, unknownKind, wrongId, unknownId, unknownType}
+use Rattle.field.specs.Answer.{done, incomplete, unknownKind, wrongId, unknownId, unknownType}
 use Rattle.field.specs.Choice.{pick}
 use Rattle.field.specs.Octets.{decode16}
 use Rattle.field.specs.Field.{whenThere, movedBy, andThen}
@@ -94,6 +94,16 @@ parseMessage updateType m =
     (pick (eqb (getD m 0 0) updateKind) (ofUpdate (parseUpdate (idAllowed Any) (λ id. updateType) m))
     (D.Refused unknownKind 0)))))))
     (D.Refused incomplete 0)
+
+-- the number that a reading is answered with
+abbrev pub numberOf : Decoded → ℕ
+numberOf (D.Refused number place) = number
+numberOf D.KeepAlive = done
+numberOf (D.Hello revision) = done
+numberOf (D.Unsupported revision) = done
+numberOf D.HelloComplete = done
+numberOf (D.Assignment nameLength type id number valueLength) = done
+numberOf (D.Update id number valueLength) = done
 
 -- ""Taken" is the message's own length"
 abbrev pub takenOf : Decoded → ℕ

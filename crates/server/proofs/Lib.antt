@@ -1,2 +1,5 @@
-pub mod CallLaws
-pub mod StepLaws
+pub mod JudgeLaws
+pub mod SoundnessLaws
+pub mod AnswerLaws
+pub mod ReadLaws
+pub mod ChangeLaws

@@ -9,7 +9,7 @@ use Rattle.field.specs.Choice.{pick}
 use Rattle.field.specs.Octets.{overwriteAt}
 use Rattle.scalar.specs.Scalar.{scalarOf}
 use Rattle.scalar.specs.declared.Scalar.{Scalar}
-use Rattle.scalar.specs.declared.Scalar.the-variants.{Refused}
+use Rattle.scalar.specs.declared.Scalar.the-variants.{Boolean, Double, Neither, Refused}
 use Rattle.message.specs.Layout.{unsupportedKind, assignmentBytes, updateBytes, revisionBytes}
 use Rattle.table.specs.Table.{TableMemory, emptied, entryAt, entriesOf, storeEntry, storeValue}
 use Rattle.soundness.specs.Sound.{largeEnough, soundTable, soundMarks, connections, closed, open′, greeted}
@@ -100,3 +100,10 @@ readScalar limit m id =
     pick (soundTable limit m)
     (pick (ltb id (m .count)) (scalarOf (entryAt (m .heads) (m .bytes) id .type) (entryAt (m .heads) (m .bytes) id .value)) (Refused unknownId))
     (Refused unsound)
+
+-- the number that a reading is answered with
+abbrev pub numberOf : Scalar → ℕ
+numberOf (Boolean flag) = done
+numberOf (Double number) = done
+numberOf Neither = done
+numberOf (Refused number) = number

@@ -2,3 +2,4 @@ pub mod BelowLaws
 pub mod EntryLaws
 pub mod SoundLaws
 pub mod ReadableLaws
+pub mod StoredLaws

@@ -13,7 +13,7 @@ use Rattle.message.specs.Layout.{Entry}
 use Rattle.field.specs.Octets.{bytesEqual}
 use Rattle.field.proofs.EqualLaws.{is-false, bytes-equal-true}
 use Rattle.table.specs.Names.{holder, nameHeld, namesDiffer}
-use Rattle.table.specs.Table.{TableMemory, Named, entryAt, entriesOf, headField, tabulate}
+use Rattle.table.specs.Table.{TableMemory, Named, Readable, entryAt, entriesOf, headField, tabulate}
 use Rattle.table.proofs.NamesLaws.{holder-found, holder-absent, holder-first, differ-last, differ-at, at-differ}
 use Rattle.table.proofs.TabulateLaws.{length-tabulate, getD-tabulate, length-entries}
 
@@ -34,6 +34,15 @@ pub name-byte : (heads bytes : List ℕ) (i k : ℕ) → k < getD heads (4 * i) 
 unfolding entryAt
 name-byte heads bytes i k h =
     getD-take (headField heads i 0) (drop (320 * i) bytes) k 0 (omega (arith, first-field heads i)) ∙ getD-drop (320 * i) bytes k 0
+
+pub value-fits : (n : ℕ) (heads bytes : List ℕ) (i : ℕ) → Readable n heads bytes → i < n → getD heads (4 * i + 1) 0 ≤ 256
+value-fits n heads bytes i r l = r .values-fit i l
+
+pub value-length : (n : ℕ) (heads bytes : List ℕ) (i : ℕ) → Readable n heads bytes → i < n → length (entryAt heads bytes i .value) ≡ getD heads (4 * i + 1) 0
+unfolding entryAt
+value-length n heads bytes i r l =
+    length-take-le (headField heads i 1) (drop (320 * i + 64) bytes)
+    (omega (arith, r .values-fit i l, r .named .holds .bytes-hold, length-drop (320 * i + 64) bytes))
 
 -- none of the first n has the name
 pub holder-below : (name : List ℕ) (f : ℕ → Entry) (n : ℕ) → ((i : ℕ) → i < n → bytesEqual (f i .name) name ≡ false) → holder name (tabulate n f) ≡ n
@@ -101,6 +110,14 @@ named-less n heads bytes i l m =
     record {
       holds = record { heads-hold = omega (arith, m .holds .heads-hold); bytes-hold = omega (arith, m .holds .bytes-hold) };
       names-fit = λ j h. m .names-fit j (omega arith);
+    }
+
+pub readable-less : (n : ℕ) (heads bytes : List ℕ) (i : ℕ) → i ≤ n → Readable n heads bytes → Readable i heads bytes
+readable-less n heads bytes i l r =
+    record {
+      named = named-less n heads bytes i l (r .named);
+      values-fit = λ j h. r .values-fit j (omega arith);
+      types-fit = λ j h. r .types-fit j (omega arith);
     }
 
 -- ---- what the search's answer says of the entries of a table

@@ -10,35 +10,21 @@ use native.Mathlib.Omega.{arith}
 use lib.ListN.{length, take, drop, getD, set, length-set, length-take, length-drop}
 use lib.Seq.{drop-at, take-append-seam, length-take-le, getD-take, getD-drop, getD-set-same, getD-set-other, ext-getD}
 use Rattle.field.specs.Octets.{overwriteAt}
-use Rattle.field.proofs.OverwriteLaws.{length-overwrite, overwrite-eq}
+use Rattle.field.proofs.OverwriteLaws.{length-overwrite, overwrite-eq, Outside, overwrite-outside, overwrite-inside}
 use Rattle.message.specs.Layout.{Entry, maxNameLength}
 use Rattle.value.specs.Value.{maxValueSize}
 use Rattle.table.specs.Table.{entrySize, headSize, nameLengthField, valueLengthField, typeField, numberField, TableMemory, nameStart, valueStart, Holds, headField, part, entryAt}
-use Rattle.table.specs.Table.{tabulate, entriesOf, defaultEntry, withNumberAndValue, headsWithEntry, bytesWithEntry, headsWithValue, bytesWithValue, storeEntry, storeValue}
+use Rattle.table.specs.Table.{tabulate, entriesOf, defaultEntry, headsWithEntry, bytesWithEntry, headsWithValue, bytesWithValue, storeEntry, storeValue}
 use Rattle.table.proofs.TabulateLaws.{getD-tabulate, tabulate-same, tabulate-set}
 
--- ---- numbers stored from a place on
+-- ---- entries as a list
 
--- p is none of the n places from `from` on
-abbrev pub Outside : ℕ → ℕ → ℕ → Type 0
-Outside from n p = (k : ℕ) → k < n → p ≢ from + k
+-- entry i with another number and value
+unfoldable pub withNumberAndValue : List Entry → ℕ → ℕ → List ℕ → List Entry
+withNumberAndValue es i number value =
+    set es i (record { name = getD es i defaultEntry .name; type = getD es i defaultEntry .type; number = number; value = value })
 
-pub overwrite-outside : (xs : List ℕ) (at : ℕ) (ys : List ℕ) (p : ℕ) → Outside at (length ys) p → getD (overwriteAt xs at ys) p 0 ≡ getD xs p 0
-unfolding overwriteAt
-overwrite-outside xs at [] p h = refl
-overwrite-outside xs at (y ∷ ys) p h =
-    overwrite-outside (set xs at y) (at + 1) ys p (λ k l. omega (arith, h (suc k) (omega arith)))
-    ∙ getD-set-other xs at p y 0 (omega (arith, h 0 (omega arith)))
-
-pub overwrite-inside : (xs : List ℕ) (at : ℕ) (ys : List ℕ) (j : ℕ) → at + length ys ≤ length xs → j < length ys
-    → getD (overwriteAt xs at ys) (at + j) 0 ≡ getD ys j 0
-unfolding overwriteAt
-overwrite-inside xs at [] j fits h = absurd (omega arith)
-overwrite-inside xs at (y ∷ ys) zero fits h =
-    rw add-zero (overwrite-outside (set xs at y) (at + 1) ys at (λ k l. omega arith) ∙ getD-set-same xs at y 0 (omega arith))
-overwrite-inside xs at (y ∷ ys) (suc j) fits h =
-    let e : at + suc j ≡ at + 1 + j = omega arith in
-    rw e (overwrite-inside (set xs at y) (at + 1) ys j (simp length-set (omega arith)) (omega arith))
+-- ---- parts of memory
 
 part-stored : (xs : List ℕ) (at : ℕ) (ys : List ℕ) → at + length ys ≤ length xs → part at (length ys) (overwriteAt xs at ys) ≡ ys
 part-stored xs at ys fits =

@@ -96,11 +96,6 @@ entriesOf m = tabulate (m .count) (entryAt (m .heads) (m .bytes))
 unfoldable pub defaultEntry : Entry
 defaultEntry = record { name = []; type = 0; number = 0; value = [] }
 
--- entry i with another number and value
-unfoldable pub withNumberAndValue : List Entry → ℕ → ℕ → List ℕ → List Entry
-withNumberAndValue es i number value =
-    set es i (record { name = getD es i defaultEntry .name; type = getD es i defaultEntry .type; number = number; value = value })
-
 -- an update, read as the held entries fix it: an ID below the count is held, and the stored type is the value's
 abbrev pub parseHeldUpdate : List Entry → List ℕ → UpdateRead
 parseHeldUpdate es = parseUpdate (λ id. ltb id (length es)) (λ id. getD es id defaultEntry .type)

@@ -2,13 +2,20 @@
 -- equal bytes mean equal fields of that kind, for two updates where their types are equal."
 use mathlib.Core.Path.{_≡_, refl, sym, ap, _∙_}
 use mathlib.Core.List.{List, _++_}
-use Prim.Native.Nat.{ℕ}
-use lib.ListN.{getD}
-use borrow.Author.Tests.{eqb-true}
+use mathlib.Core.Bool.{Bool, true, false}
+use Prim.Native.Nat.{ℕ, _+_, _≤_}
+use native.Mathlib.Omega.{arith}
+use lib.ListN.{length, drop, getD}
+use lib.Dec.{leb}
+use borrow.Author.Tests.{eqb-true, leb-true}
+use Rattle.field.specs.Choice.{pick}
+use Rattle.field.specs.Octets.{overwriteAt}
 use Rattle.field.proofs.ChoiceLaws.{by-test}
+use Rattle.field.proofs.OverwriteLaws.{overwrite-eq}
 use Rattle.message.specs.Layout.{Message, keepAlive, hello, unsupported, helloComplete, assignment, update, layout, assignmentBytes, updateBytes, revisionBytes, updateKind, WellFormedMessage}
 use Rattle.message.proofs.ReadBack.{ReadsAs, read-back, same-bytes}
-use Rattle.writer.specs.Writer.{Fields, Checked, check}
+use Rattle.writer.specs.Writer.{Fields, Checked, check, answerOf, outputOf}
+use Rattle.writer.specs.declared.Encoded.the-variants as E
 use Rattle.writer.proofs.WriterLaws.{CheckIs, entryOf, assignment-check, update-check}
 
 -- a message begins with its kind
@@ -54,6 +61,24 @@ module _ (f : Fields) (x : Message) (e : check f ≡ Checked.allowed x) where
   -- reading it gives the fields back, and takes its bytes
   pub written-back : (rest : List ℕ) → ReadsAs (f .type) x (layout x ++ rest)
   written-back rest = read-back (f .type) x rest written-well-formed
+
+-- what the call leaves in the output, from its first byte on, reads back
+pub sent-back : (f : Fields) (out : List ℕ) (n : ℕ) → answerOf (check f) out ≡ E.Sent n
+    → (x : Message) × (check f ≡ Checked.allowed x) × (n ≡ length (layout x)) × ReadsAs (f .type) x (outputOf (check f) out)
+unfolding pick
+sent-back f out n e = go (check f) refl e
+  where
+    fitted : (x : Message) → check f ≡ Checked.allowed x → (room : Bool) → leb (length (layout x)) (length out) ≡ room
+        → pick room (E.Sent (length (layout x))) (E.Refused 12) ≡ E.Sent n
+        → (y : Message) × (Checked.allowed x ≡ Checked.allowed y) × (n ≡ length (layout y)) × ReadsAs (f .type) y (pick room (overwriteAt out 0 (layout x)) out)
+    fitted x c true h q =
+        let l : 0 + length (layout x) ≤ length out = omega (arith, leb-true (length (layout x)) (length out) h) in
+        (x, refl, cc, rw (overwrite-eq out 0 (layout x) l) (written-back f x c (drop (0 + length (layout x)) out)))
+    fitted x c false h q = let z : _≡_ {A = ℕ} 0 1 = cc in absurd (omega arith)
+
+    go : (r : Checked) → check f ≡ r → answerOf r out ≡ E.Sent n → (x : Message) × (r ≡ Checked.allowed x) × (n ≡ length (layout x)) × ReadsAs (f .type) x (outputOf r out)
+    go (Checked.refused k) c q = let z : _≡_ {A = ℕ} 0 1 = cc in absurd (omega arith)
+    go (Checked.allowed x) c q = fitted x c (leb (length (layout x)) (length out)) refl q
 
 -- only an update's form depends on the type that is given
 any-type : (s t : ℕ) (x : Message) → (kindOf x ≡ updateKind → s ≡ t) → WellFormedMessage s x → WellFormedMessage t x

@@ -3,7 +3,7 @@ use Prim.Native.Nat.{ℕ, _≤_}
 use mathlib.Core.List.{List, []}
 use lib.ListN.{length}
 use lib.Dec.{leb, eqb}
-use Rattle.field.specs.Answer.{unknownKind, notUtf8, tooLong, outputTooShort}
+use Rattle.field.specs.Answer.{done, unknownKind, notUtf8, tooLong, outputTooShort}
 use Rattle.field.specs.Choice.{pick}
 use Rattle.field.specs.Octets.{overwriteAt}
 use Rattle.field.specs.declared.Parsed.{Parsed}
@@ -79,3 +79,12 @@ answerOf (allowed m) out = pick (leb (length (layout m)) (length out)) (E.Sent (
 abbrev pub outputOf : Checked → List ℕ → List ℕ
 outputOf (refused number) out = out
 outputOf (allowed m) out = pick (leb (length (layout m)) (length out)) (overwriteAt out 0 (layout m)) out
+
+-- the number that the writer answers with, and the bytes that it sent
+abbrev pub numberOf : Encoded → ℕ
+numberOf (E.Refused number) = number
+numberOf (E.Sent sent) = done
+
+abbrev pub sentOf : Encoded → ℕ
+sentOf (E.Refused number) = 0
+sentOf (E.Sent sent) = sent

@@ -4,8 +4,8 @@ use Prim.Native.Nat.{ℕ, _+_, _-_, _*_, _≤_}
 use native.Mathlib.Omega.{arith}
 use lib.ListN.{length, getD}
 use Rattle.table.specs.Table.{entryAt}
-use Rattle.table.proofs.SearchLaws.{name-fits}
-use Rattle.answers.proofs.HelloLaws.{assignmentsBelow, below-none, length-below-more, length-hello-below, length-entry, length-below-most, readable-less, value-fits}
+use Rattle.table.proofs.SearchLaws.{name-fits, readable-less, value-fits}
+use Rattle.answers.proofs.HelloLaws.{assignmentsBelow, below-none, length-below-more, length-hello-below, length-entry, length-below-most}
 use Rattle.answers.proofs.hello_length.Statement.{statement}
 use Rattle.answers.proofs.hello_length.Tie as tie
 

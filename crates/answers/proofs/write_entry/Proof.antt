@@ -3,8 +3,8 @@ use Prim.Native.Nat.{ℕ, _+_, _*_, _≤_}
 use native.Mathlib.Omega.{arith}
 use lib.ListN.{getD}
 use Rattle.table.specs.Table.{entryAt}
-use Rattle.table.proofs.SearchLaws.{name-fits, name-length, name-part, value-part}
-use Rattle.answers.proofs.HelloLaws.{length-entry, value-fits, value-length}
+use Rattle.table.proofs.SearchLaws.{name-fits, name-length, name-part, value-part, value-fits, value-length}
+use Rattle.answers.proofs.HelloLaws.{length-entry}
 use borrow.Author.Needs.{needs}
 use Rattle.answers.proofs.write_entry.Statement.{statement}
 use Rattle.answers.proofs.write_entry.Tie as tie

@@ -7,7 +7,8 @@ use Rattle.field.specs.Octets.{overwriteAt}
 use Rattle.field.proofs.OverwriteLaws.{Stored, stored, store-next, length-overwrite}
 use Rattle.message.specs.Layout.{assignmentBytes}
 use Rattle.table.specs.Table.{entryAt}
-use Rattle.answers.proofs.HelloLaws.{assignmentsBelow, below-more, hello-below, length-below-more, length-hello-below, length-below-mono, readable-less, overwrite-rest}
+use Rattle.table.proofs.SearchLaws.{readable-less}
+use Rattle.answers.proofs.HelloLaws.{assignmentsBelow, below-more, hello-below, length-below-more, length-hello-below, length-below-mono, overwrite-rest}
 use Rattle.answers.proofs.write_hello.Statement.{statement}
 use Rattle.answers.proofs.write_hello.Tie as tie
 

@@ -1,6 +1,7 @@
 use mathlib.Core.Bool.{true, false}
 use mathlib.Core.Path.{_≡_, refl, sym, ap, _∙_}
 use Prim.Native.Nat.{ℕ, _+_, _-_, _≤_, _<_}
+use native.Mathlib.Nat.{add-sub-cancel-left}
 use native.Mathlib.Omega.{arith}
 use lib.ListN.{length, take, drop, length-take}
 use borrow.Author.Tests.{lt-ltb, le-ltb}
@@ -32,13 +33,10 @@ fits c =
     let g = c .read .given .0 in
     assignment-fits (idAllowed (Only (s .args .count .now))) (s .args .m .now) (g .0) (g .1 .0) (g .1 .1 .0) (g .1 .1 .1 .0) (g .1 .1 .1 .1 .0) (sym (c .before .before .read-assignment .ensures) ∙ c .read .given .1)
 
-less : (a n : ℕ) → a + n - a ≡ n
-less a n = omega arith
-
 -- the search's answer, for the name that was read
 holder-is : (c : tie.After-find-name) → c .find-name .result ≡ holder (take (c .before .before .before .before .before .read .given .0 .0) (drop 3 (to-start (c .before .before .before .before .before) .args .m .now))) (entriesOf (memory (to-start (c .before .before .before .before .before))))
 unfolding to-start entriesOf
-holder-is c = rw (less 3 (c .before .before .before .before .before .read .given .0 .0)) at (c .find-name .ensures)
+holder-is c = rw (add-sub-cancel-left 3 (c .before .before .before .before .before .read .given .0 .0)) at (c .find-name .ensures)
 
 -- the name is held, or not
 name-held : (c : tie.After-find-name) → c .find-name .result < to-start (c .before .before .before .before .before) .args .count .now
@@ -183,7 +181,7 @@ returns-4 c =
     let f = e .before .before in
     let r = f .before .before .before .before .before in
     let s = to-start r in
-    rw (c .stored .ensures, w .store-entry .ensures .0, w .store-entry .ensures .1, ← (r .before .before .read-assignment .ensures), r .read .given .1, name-new f (e .before .if1 .left), length-entries (memory s), lt-ltb (s .args .count .now) 64 (e .if2 .left), less 3 (r .read .given .0 .0), less (8 + r .read .given .0 .0) (r .read .given .0 .1 .1 .1 .1 .0))
+    rw (c .stored .ensures, w .store-entry .ensures .0, w .store-entry .ensures .1, ← (r .before .before .read-assignment .ensures), r .read .given .1, name-new f (e .before .if1 .left), length-entries (memory s), lt-ltb (s .args .count .now) 64 (e .if2 .left), add-sub-cancel-left 3 (r .read .given .0 .0), add-sub-cancel-left (8 + r .read .given .0 .0) (r .read .given .0 .1 .1 .1 .1 .0))
 
 pub copy-assignment-spec : {M : Type 1} → statement M
 copy-assignment-spec =

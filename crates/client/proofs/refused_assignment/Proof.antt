@@ -1,13 +1,10 @@
 use native.Mathlib.Omega.{arith}
 use mathlib.Core.Path.{_≡_, refl, sym, ap, _∙_}
 use Prim.Native.Nat.{ℕ}
-use Rattle.message.specs.declared.AssignmentRead.the-variants.{Refused}
+use Rattle.message.proofs.ReaderLaws.{refused-assignment-number}
 use borrow.Author.Needs.{needs}
 use Rattle.client.proofs.refused_assignment.Statement.{statement}
 use Rattle.client.proofs.refused_assignment.Tie as tie
-
-refused-number : {number number′ place place′ : ℕ} → Refused number place ≡ Refused number′ place′ → number ≡ number′
-refused-number e = cc
 
 enum-known-read : tie.Need-enum-known-read
 enum-known-read c = search needs
@@ -23,10 +20,7 @@ refused-requires-2 c κs = search needs
 
 returns : tie.Need-returns
 returns c =
-    λ number place e.
-    let g = c .before .before .read .given in
-    let same : Refused (g .0 .0) (g .0 .1 .0) ≡ Refused number place = sym (g .1) ∙ e in
-    rw (c .refused .ensures, refused-number same)
+    λ number place e. rw (c .refused .ensures, refused-assignment-number (c .before .before .read .given .1) e)
 
 returns-2 : tie.Need-returns-2
 returns-2 c = λ number place e. let z : _≡_ {A = ℕ} 0 1 = cc (c .before .enum-told .given .1) in absurd (omega arith)

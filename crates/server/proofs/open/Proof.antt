@@ -9,9 +9,9 @@ use Rattle.field.specs.Choice.{pick}
 use Rattle.field.specs.Octets.{overwriteAt}
 use Rattle.answers.proofs.RecipientLaws.{nobody-set}
 use Rattle.table.specs.Table.{tableMemory}
+use Rattle.soundness.proofs.ReadableLaws.{sixteen-marks}
 use Rattle.server.specs.Judge.{judge}
 use Rattle.server.specs.Step.{callStep, execute}
-use Rattle.server.proofs.CallLaws.{sixteen-marks}
 use borrow.Author.Needs.{needs}
 use Rattle.server.proofs.open.Statement.{statement}
 use Rattle.server.proofs.open.Tie as tie

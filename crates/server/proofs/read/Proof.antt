@@ -1,12 +1,13 @@
 use mathlib.Core.Path.{_≡_, sym, _∙_}
 use mathlib.Core.Bool.{true}
+use native.Mathlib.Nat.{add-sub-cancel-left}
 use native.Mathlib.Omega.{arith}
 use borrow.Author.Tests.{lt-ltb, le-ltb, not-true, not-false}
 use Rattle.field.specs.Choice.{pick}
 use Rattle.table.specs.Table.{TableMemory, tableMemory, headField, valueLengthField, valueStart, entryAt}
 use Rattle.soundness.specs.Sound.{soundTable}
+use Rattle.soundness.proofs.ReadableLaws.{StoredEntry, stored-entry}
 use Rattle.server.specs.Step.{readScalar}
-use Rattle.server.proofs.StepLaws.{StoredEntry, stored-entry, part-length}
 use borrow.Author.Needs.{needs}
 use Rattle.server.proofs.read.Statement.{statement}
 use Rattle.server.proofs.read.Tie as tie
@@ -95,7 +96,7 @@ unfolding readScalar pick to-start entryAt
 returns-3 c =
     let e = c .before .before .before .before in
     let a = to-start e .args in
-    rw (c .scalar-of .ensures, sound e, lt-ltb (a .id) (a .count) (e .if2 .left), part-length (valueStart (a .id)) (headField (a .heads .now) (a .id) valueLengthField))
+    rw (c .scalar-of .ensures, sound e, lt-ltb (a .id) (a .count) (e .if2 .left), add-sub-cancel-left (valueStart (a .id)) (headField (a .heads .now) (a .id) valueLengthField))
 
 pub read-spec : {M : Type 1} → statement M
 read-spec =

@@ -4,6 +4,7 @@ use lib.ListN.{length}
 use mathlib.Core.Bool.{true, _&&_}
 use borrow.Author.Tests.{lt-ltb, le-ltb, eq-eqb, ne-eqb}
 use Rattle.soundness.specs.Sound.{soundTable, soundMarks}
+use Rattle.soundness.proofs.ReadableLaws.{table-sound, sixteen-marks}
 use Rattle.server.specs.Step.{execute}
 use mathlib.Core.Path.{_≡_, refl, sym, ap, _∙_}
 use borrow.Author.Tests.{not-true, not-false}
@@ -11,7 +12,6 @@ use Rattle.field.specs.Choice.{pick}
 use Rattle.table.specs.Table.{tableMemory}
 use Rattle.server.specs.Judge.{judge}
 use Rattle.server.specs.Step.{callStep}
-use Rattle.server.proofs.CallLaws.{table-sound, sixteen-marks}
 use borrow.Author.Needs.{needs}
 use Rattle.server.proofs.receive.Statement.{statement}
 use Rattle.server.proofs.receive.Tie as tie

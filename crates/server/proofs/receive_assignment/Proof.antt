@@ -1,6 +1,7 @@
 use mathlib.Core.Path.{_≡_, refl, sym, ap, _∙_}
 use mathlib.Core.Bool.{true, false}
 use Prim.Native.Nat.{ℕ, _+_, _-_, _≤_, _<_}
+use native.Mathlib.Nat.{add-sub-cancel-left}
 use native.Mathlib.Omega.{arith}
 use lib.ListN.{length, take, drop, getD, length-take}
 use borrow.Author.Tests.{lt-ltb, le-ltb, eq-eqb, ne-eqb}
@@ -38,16 +39,13 @@ fits c =
     let g = c .read .given .0 in
     assignment-fits (idAllowed (Only 0xFFFF)) (s .args .m .now) (g .0) (g .1 .0) (g .1 .1 .0) (g .1 .1 .1 .0) (g .1 .1 .1 .1 .0) (sym (c .before .before .read-assignment .ensures) ∙ c .read .given .1)
 
-less : (a n : ℕ) → a + n - a ≡ n
-less a n = omega arith
-
 to-read : tie.After-find-name → tie.After-read
 to-read c = c .before .before .before .before .before .before
 
 -- the search's answer, for the name that was read
 holder-is : (c : tie.After-find-name) → c .find-name .result ≡ holder (take (to-read c .read .given .0 .0) (drop 3 (to-start (to-read c .before .before) .args .m .now))) (entriesOf (memory (to-start (to-read c .before .before))))
 unfolding to-start to-read entriesOf
-holder-is c = rw (less 3 (to-read c .read .given .0 .0)) at (c .find-name .ensures)
+holder-is c = rw (add-sub-cancel-left 3 (to-read c .read .given .0 .0)) at (c .find-name .ensures)
 
 -- the name is held, or not
 name-held : (c : tie.After-find-name) → c .find-name .result < to-start (to-read c .before .before) .args .count .now
@@ -200,7 +198,7 @@ returns-5 c =
     let r = to-read f in
     let s = to-start (r .before .before) in
     rw (eq-eqb _ _ (state (r .before .before)), ← (r .before .before .read-assignment .ensures), r .read .given .1, name-new f (e .before .if2 .left), length-entries (memory s), lt-ltb (s .args .count .now) 64 (e .if3 .left))
-    (rw (less 3 (r .read .given .0 .0), less (8 + r .read .given .0 .0) (r .read .given .0 .1 .1 .1 .1 .0)) at (k .store-new .ensures))
+    (rw (add-sub-cancel-left 3 (r .read .given .0 .0), add-sub-cancel-left (8 + r .read .given .0 .0) (r .read .given .0 .1 .1 .1 .1 .0)) at (k .store-new .ensures))
 
 pub receive-assignment-spec : {M : Type 1} → statement M
 receive-assignment-spec =

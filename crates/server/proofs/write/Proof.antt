@@ -2,9 +2,9 @@ use mathlib.Core.Path.{_≡_, refl, sym, ap, _∙_}
 use borrow.Author.Tests.{not-true, not-false}
 use Rattle.field.specs.Choice.{pick}
 use Rattle.table.specs.Table.{tableMemory}
+use Rattle.soundness.proofs.ReadableLaws.{table-sound, sixteen-marks}
 use Rattle.server.specs.Judge.{judge}
 use Rattle.server.specs.Step.{callStep}
-use Rattle.server.proofs.CallLaws.{table-sound, sixteen-marks}
 use borrow.Author.Needs.{needs}
 use Rattle.server.proofs.write.Statement.{statement}
 use Rattle.server.proofs.write.Tie as tie

@@ -1,5 +1,6 @@
 use mathlib.Core.Path.{_≡_, refl}
 use Prim.Native.Nat.{ℕ}
+use native.Mathlib.Nat.{add-sub-cancel-left}
 use native.Mathlib.Omega.{arith}
 use lib.ListN.{length}
 use borrow.Author.Tests.{lt-ltb, le-ltb}
@@ -12,11 +13,10 @@ use Rattle.scalar.specs.Scalar.{equalValues}
 use Rattle.table.specs.Table.{TableMemory, tableMemory, headField, typeField, numberField, valueLengthField, valueStart, part, entryAt, entriesOf, defaultEntry}
 use Rattle.table.proofs.TabulateLaws.{length-entries, entry-get}
 use Rattle.soundness.proofs.EntryLaws.{accepted-value}
-use Rattle.soundness.proofs.ReadableLaws.{sound-holds, sound-count}
+use Rattle.soundness.proofs.ReadableLaws.{sound-holds, sound-count, StoredEntry, stored-entry}
 use Rattle.answers.specs.Recipients.{allGreeted}
 use Rattle.server.specs.Judge.{Verdict, ignore, storeUpdate, refuseField, judgeWrite}
 use Rattle.server.specs.Step.{execute}
-use Rattle.server.proofs.StepLaws.{StoredEntry, stored-entry, part-length}
 use borrow.Author.Needs.{needs}
 use Rattle.server.proofs.write_sound.Statement.{statement}
 use Rattle.server.proofs.write_sound.Tie as tie
@@ -151,7 +151,7 @@ returns-3 c =
     let t = v .before .before .before .before in
     let r = t .before .before in
     let s = to-start (r .before .before) in
-    rw (c .ignored .ensures, judged-is (r .before .before), ← (r .read-lone .ensures), t .enum-told .given .1, ← (part-length (valueStart (s .args .id)) (stored-field s valueLengthField)), ← (v .same-value .ensures), c .before .if2 .taken)
+    rw (c .ignored .ensures, judged-is (r .before .before), ← (r .read-lone .ensures), t .enum-told .given .1, ← (add-sub-cancel-left (valueStart (s .args .id)) (stored-field s valueLengthField)), ← (v .same-value .ensures), c .before .if2 .taken)
 
 add-t23 : tie.Need-add-t23
 add-t23 c = search needs
@@ -197,7 +197,7 @@ returns-4 c =
     let t = v .before .before .before .before in
     let r = t .before .before in
     let s = to-start (r .before .before) in
-    rw (judged-is (r .before .before), ← (r .read-lone .ensures), t .enum-told .given .1, ← (part-length (valueStart (s .args .id)) (stored-field s valueLengthField)), ← (v .same-value .ensures), o .if2 .left, ← (n .next .ensures)) (w .store-update .ensures (s .args .count) (s .args .marks .now) allGreeted (g .all-greeted .ensures))
+    rw (judged-is (r .before .before), ← (r .read-lone .ensures), t .enum-told .given .1, ← (add-sub-cancel-left (valueStart (s .args .id)) (stored-field s valueLengthField)), ← (v .same-value .ensures), o .if2 .left, ← (n .next .ensures)) (w .store-update .ensures (s .args .count) (s .args .marks .now) allGreeted (g .all-greeted .ensures))
 
 pub write-sound-spec : {M : Type 1} → statement M
 write-sound-spec =

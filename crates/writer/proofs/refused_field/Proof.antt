@@ -1,13 +1,10 @@
 use mathlib.Core.Path.{_≡_, sym, ap, _∙_}
 use Prim.Native.Nat.{ℕ}
-use Rattle.field.specs.declared.Parsed.the-variants.{Refused}
+use Rattle.field.proofs.FieldLaws.{refused-number}
 use Rattle.writer.specs.declared.Needed.the-variants as N
 use borrow.Author.Needs.{needs}
 use Rattle.writer.proofs.refused_field.Statement.{statement}
 use Rattle.writer.proofs.refused_field.Tie as tie
-
-refused-number : {number number′ place place′ : ℕ} → Refused number place ≡ Refused number′ place′ → number ≡ number′
-refused-number e = cc
 
 enum-known-p : tie.Need-enum-known-p
 enum-known-p c = search needs
@@ -17,10 +14,7 @@ enum-told c = search needs
 
 returns : tie.Need-returns
 returns c =
-    λ number place e.
-    let g = c .before .p .given in
-    let same : Refused (g .0 .0) (g .0 .1 .0) ≡ Refused number place = sym (g .1) ∙ e in
-    ap N.Refused (refused-number same)
+    λ number place e. ap N.Refused (refused-number (c .before .p .given .1) e)
 
 returns-2 : tie.Need-returns-2
 returns-2 c = λ number place e. cc (c .enum-told .given .1)

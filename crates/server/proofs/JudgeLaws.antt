@@ -27,8 +27,8 @@ use Rattle.writer.proofs.WriterLaws.{NameIs, name-is}
 use Rattle.table.specs.Names.{nameHeld}
 use Rattle.table.specs.Table.{defaultEntry}
 use Rattle.answers.specs.Recipients.{Recipients, allGreeted, otherGreeted}
-use Rattle.convergence.proofs.RefusalLaws.{RefusalNumber, refusal-number, RefusedRightly, numbered, lone-rightly, AssignmentRefused, assignment-rightly, UpdateRefused, update-rightly}
+use Rattle.message.proofs.RefusalLaws.{RefusalNumber, refusal-number, RefusedRightly, numbered, lone-rightly, AssignmentRefused, assignment-rightly, UpdateRefused, update-rightly}
 use Rattle.server.specs.Judge.{Call, openConnection, leave, clientMessage, localCreate, localWrite, readEntry, Verdict, refuse, ignore, readDone, openMark, closeMark, acceptHello, unsupportedRevision, storeNew, storeUpdate, newId, refuseField, judgeHello, judgeAssignment, judgeUpdate, judgeMessage, judgeCreate, judgeWrite, judge}
 
 -- to whom an update goes: a local write's to all greeted, a client's to all but that client
 pub data SentTo (call : Call) : Recipients → Type 0 where

@@ -9,10 +9,10 @@ use Rattle.field.specs.Choice.{pick}
 use Rattle.field.proofs.ChoiceLaws.{by-test}
 use Rattle.message.specs.Layout.{Entry}
 use Rattle.table.specs.Table.{entriesOf}
 use Rattle.server.specs.Judge.{Call, Verdict, refuse, ignore, readDone, openMark, closeMark, acceptHello, unsupportedRevision, storeNew, storeUpdate}
 use Rattle.server.specs.Step.{ServerMemory, LentCall, CallResult, refusal, execute, callStep}
-use Rattle.convergence.proofs.RefusalLaws.{RefusalNumber, refusal-number}
-use Rattle.convergence.proofs.JudgeLaws.{VerdictIs, verdict-is}
+use Rattle.message.proofs.RefusalLaws.{RefusalNumber, refusal-number}
+use Rattle.server.proofs.JudgeLaws.{VerdictIs, verdict-is}
 
 -- "A refusal (1 to 14) reports 0 bytes taken, 0 sent and no recipients, and changes no lent memory";
 -- "ignored: the message is taken, nothing changes, no output, no recipients"

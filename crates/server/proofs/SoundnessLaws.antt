@@ -13,15 +13,14 @@ use borrow.Author.Tests.{leb-true}
 use Rattle.field.specs.Choice.{pick}
 use Rattle.field.specs.Octets.{overwriteAt}
 use Rattle.field.proofs.ChoiceLaws.{by-test, pick-true}
-use Rattle.field.proofs.OverwriteLaws.{length-overwrite}
+use Rattle.field.proofs.OverwriteLaws.{length-overwrite, overwrite-inside}
 use Rattle.table.specs.Table.{entriesOf, emptied}
-use Rattle.table.proofs.StoreLaws.{overwrite-inside}
 use Rattle.soundness.specs.Sound.{largeEnough, soundTable, soundMarks}
 use Rattle.soundness.proofs.SoundLaws.{marks-facts, facts-marks}
 use Rattle.server.specs.Judge.{Call, openConnection, leave, clientMessage, localCreate, localWrite, readEntry, Verdict, refuse, ignore, readDone, openMark, closeMark, acceptHello, unsupportedRevision, storeNew, storeUpdate, judge}
 use Rattle.server.specs.Step.{ServerMemory, LentCall, CallResult, withMark, execute, soundFor, callStep, StartResult, freshStart}
-use Rattle.convergence.proofs.StoredSound.{sound-new, sound-value, sound-empty}
-use Rattle.convergence.proofs.JudgeLaws.{VerdictIs, verdict-is}
+use Rattle.soundness.proofs.StoredLaws.{new-sound, value-sound, empty-sound}
+use Rattle.server.proofs.JudgeLaws.{VerdictIs, verdict-is}
 
 pub record SoundMemory (limit : ℕ) (mem : ServerMemory) : Type 0 where
   pub table : soundTable limit (mem .table) ≡ true
@@ -57,9 +56,9 @@ module _ (limit : ℕ) (mem : ServerMemory) (s : SoundMemory limit mem) where
   execute-sound out call (acceptHello c) f = answered _ _ _ (sound-mark c _ (omega arith)) s
   execute-sound out call (unsupportedRevision c) f = answered _ _ _ (sound-mark c _ (omega arith)) s
   execute-sound out call (storeNew e taken) (VerdictIs.created w new room) =
-      answered _ _ _ (record { table = sound-new limit (mem .table) (s .table) e w new room; marks = s .marks }) s
+      answered _ _ _ (record { table = new-sound limit (mem .table) (s .table) e w new room; marks = s .marks }) s
   execute-sound out call (storeUpdate id number value taken to) (VerdictIs.updated held w sent) =
-      answered _ _ _ (record { table = sound-value limit (mem .table) (s .table) id _ value held w; marks = s .marks }) s
+      answered _ _ _ (record { table = value-sound limit (mem .table) (s .table) id _ value held w; marks = s .marks }) s
 
   both : (soundTable limit (mem .table) && soundMarks (mem .marks)) ≡ true
   both = rw (s .table, s .marks)
@@ -142,7 +141,7 @@ started limit mem =
     sound h =
         let l : 16 ≤ length (mem .marks) = leb-true 16 (length (mem .marks)) (h .1) in
         record {
-          table = sound-empty limit (mem .table) (h .0);
+          table = empty-sound limit (mem .table) (h .0);
           marks = facts-marks (overwriteAt (mem .marks) 0 (replicate 16 0)) (omega (arith, length-overwrite (mem .marks) 0 (replicate 16 0))) (closed-marks l);
         }
 

@@ -11,22 +11,14 @@ use Rattle.value.specs.Value.{IsValue}
 use Rattle.value.proofs.ValueLaws.{value-small}
 use Rattle.message.specs.Layout.{Entry, WellFormed}
 use Rattle.table.specs.Names.{nameHeld, namesDiffer}
-use Rattle.table.specs.Table.{TableMemory, entryAt, entriesOf, tabulate, emptied, defaultEntry, withNumberAndValue, storeEntry, storeValue}
+use Rattle.table.specs.Table.{TableMemory, entryAt, entriesOf, tabulate, emptied, defaultEntry, storeEntry, storeValue}
 use Rattle.table.proofs.NamesLaws.{differ-last, differ-at, at-differ}
-use Rattle.table.proofs.StoreLaws.{Fit, entries-value, fit-value, entries-new, fit-new}
-use Rattle.table.proofs.TabulateLaws.{length-tabulate, getD-tabulate}
+use Rattle.table.proofs.StoreLaws.{withNumberAndValue, Fit, entries-value, fit-value, entries-new, fit-new}
+use Rattle.table.proofs.TabulateLaws.{length-entries, entry-get}
 use Rattle.soundness.specs.Sound.{largeEnough, soundTable}
 use Rattle.soundness.proofs.SoundLaws.{SoundFacts, sound-facts, facts-sound, large-holds}
 
 -- ---- entries as a list
-
-pub count-is : (m : TableMemory) → length (entriesOf m) ≡ m .count
-unfolding entriesOf
-count-is m = length-tabulate (m .count) (entryAt (m .heads) (m .bytes))
-
-pub entry-is : (m : TableMemory) (i : ℕ) → i < m .count → getD (entriesOf m) i defaultEntry ≡ entryAt (m .heads) (m .bytes) i
-unfolding entriesOf
-entry-is m i l = getD-tabulate (m .count) (entryAt (m .heads) (m .bytes)) i defaultEntry l
 
 -- every entry obeys the rules
 abbrev pub AllWellFormed : List Entry → Type 0
@@ -74,14 +66,14 @@ module _ (limit : ℕ) (m : TableMemory) (s : soundTable limit m ≡ true) where
   fit : Fit limit m
   fit = record { holds = facts .holds; names-fit = facts .names-fit; values-fit = facts .values-fit }
 
-  pub sound-all : AllWellFormed (entriesOf m)
-  sound-all i l = let b : i < m .count = omega (arith, count-is m) in rw (entry-is m i b) (facts .well-formed i b)
+  pub entries-well-formed : AllWellFormed (entriesOf m)
+  entries-well-formed i l = let b : i < m .count = omega (arith, length-entries m) in rw (entry-get m i defaultEntry b) (facts .well-formed i b)
 
-  pub sound-differ : namesDiffer (entriesOf m) ≡ true
-  sound-differ = facts .differ
+  pub entries-differ : namesDiffer (entriesOf m) ≡ true
+  entries-differ = facts .differ
 
-  pub sound-count : length (entriesOf m) ≤ limit
-  sound-count = omega (arith, count-is m, facts .count-fits)
+  pub entries-fit : length (entriesOf m) ≤ limit
+  entries-fit = omega (arith, length-entries m, facts .count-fits)
 
   -- memory that fits and whose entries obey the rules is sound
   from-entries : (m′ : TableMemory) → Fit limit m′ → m′ .count ≤ limit → AllWellFormed (entriesOf m′) → namesDiffer (entriesOf m′) ≡ true → soundTable limit m′ ≡ true
@@ -91,13 +83,13 @@ module _ (limit : ℕ) (m : TableMemory) (s : soundTable limit m ≡ true) where
         count-fits = c;
         names-fit = f .names-fit;
         values-fit = f .values-fit;
-        well-formed = λ i l. rw (entry-is m′ i l) at (w i (omega (arith, count-is m′)));
+        well-formed = λ i l. rw (entry-get m′ i defaultEntry l) at (w i (omega (arith, length-entries m′)));
         differ = d;
       })
 
   module _ (e : Entry) (w : WellFormed e) (new : nameHeld (e .name) (entriesOf m) ≡ false) (room : length (entriesOf m) < limit) where
     below : m .count < limit
-    below = omega (arith, count-is m)
+    below = omega (arith, length-entries m)
 
     small : length (e .value) ≤ 256
     small = value-small (e .type) (e .value) (length (e .value)) (w .value-whole)
@@ -105,15 +97,15 @@ module _ (limit : ℕ) (m : TableMemory) (s : soundTable limit m ≡ true) where
     pub stored-new : entriesOf (storeEntry m e) ≡ entriesOf m ++ (e ∷ [])
     stored-new = entries-new fit e below (w .name-fits) small
 
-    pub sound-new : soundTable limit (storeEntry m e) ≡ true
-    sound-new =
+    pub new-sound : soundTable limit (storeEntry m e) ≡ true
+    new-sound =
         from-entries (storeEntry m e) (fit-new fit e below (w .name-fits) small) (unfold storeEntry in omega (arith, below))
-        (rw stored-new (all-last (entriesOf m) e sound-all w))
-        (rw (stored-new, differ-last (entriesOf m) e, sound-differ, new))
+        (rw stored-new (all-last (entriesOf m) e entries-well-formed w))
+        (rw (stored-new, differ-last (entriesOf m) e, entries-differ, new))
 
   module _ (id number : ℕ) (value : List ℕ) (held : id < length (entriesOf m)) (v : IsValue (getD (entriesOf m) id defaultEntry .type) value) where
     held-id : id < m .count
-    held-id = omega (arith, count-is m)
+    held-id = omega (arith, length-entries m)
 
     small-value : length value ≤ 256
     small-value = value-small (getD (entriesOf m) id defaultEntry .type) value (length value) v
@@ -122,22 +114,22 @@ module _ (limit : ℕ) (m : TableMemory) (s : soundTable limit m ≡ true) where
     stored-value = entries-value fit id number value held-id (facts .count-fits) small-value
 
     updated : WellFormed (record { name = getD (entriesOf m) id defaultEntry .name; type = getD (entriesOf m) id defaultEntry .type; number = number; value = value })
-    updated = let old = sound-all id held in record { name-fits = old .name-fits; name-text = old .name-text; value-whole = v }
+    updated = let old = entries-well-formed id held in record { name-fits = old .name-fits; name-text = old .name-text; value-whole = v }
 
     all-value : AllWellFormed (withNumberAndValue (entriesOf m) id number value)
     unfolding withNumberAndValue
-    all-value = all-set (entriesOf m) id _ sound-all updated
+    all-value = all-set (entriesOf m) id _ entries-well-formed updated
 
-    pub sound-value : soundTable limit (storeValue m id number value) ≡ true
-    sound-value =
+    pub value-sound : soundTable limit (storeValue m id number value) ≡ true
+    value-sound =
         from-entries (storeValue m id number value) (fit-value fit id number value held-id (facts .count-fits) small-value) (unfold storeValue in facts .count-fits)
         (rw stored-value all-value)
-        (rw stored-value (differ-with (entriesOf m) id number value sound-differ))
+        (rw stored-value (differ-with (entriesOf m) id number value entries-differ))
 
 -- a table that holds nothing
-pub sound-empty : (limit : ℕ) (m : TableMemory) → largeEnough limit (m .heads) (m .bytes) ≡ true → soundTable limit (emptied m) ≡ true
+pub empty-sound : (limit : ℕ) (m : TableMemory) → largeEnough limit (m .heads) (m .bytes) ≡ true → soundTable limit (emptied m) ≡ true
 unfolding entriesOf tabulate namesDiffer
-sound-empty limit m h =
+empty-sound limit m h =
     facts-sound limit (emptied m) (record {
       holds = large-holds limit (m .heads) (m .bytes) h;
       count-fits = omega arith;

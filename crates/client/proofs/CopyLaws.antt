@@ -21,11 +21,12 @@ use Rattle.message.specs.declared.UpdateRead.the-variants as U
 use Rattle.message.proofs.TakenLaws.{AssignmentIs, assignment-is, UpdateIs, update-is}
 use Rattle.message.proofs.ReadBack.{assignment-back, name-back, value-back-at, update-back, update-value-back, length-assignment, length-update}
 use Rattle.table.specs.Names.{nameHeld}
-use Rattle.table.specs.Table.{TableMemory, tabulate, entriesOf, defaultEntry, withNumberAndValue, parseHeldUpdate, storeEntry, storeValue}
+use Rattle.table.specs.Table.{TableMemory, tabulate, entriesOf, defaultEntry, parseHeldUpdate, storeEntry, storeValue}
+use Rattle.table.proofs.StoreLaws.{withNumberAndValue}
 use Rattle.soundness.specs.Sound.{largeEnough, soundTable}
 use Rattle.client.specs.Copy.{CopyVerdict, refuse, ignore, storeNew, storeUpdate, judgeCopyAssignment, judgeCopyUpdate, judgeCopy, CopyResult, executeCopy, copyMessage, CopyStart, copyFreshStart}
-use Rattle.convergence.proofs.RefusalLaws.{RefusalNumber, refusal-number, AssignmentRefused, assignment-rightly, UpdateRefused, update-rightly}
-use Rattle.convergence.proofs.StoredSound.{stored-new, sound-new, stored-value, sound-value, sound-empty}
+use Rattle.message.proofs.RefusalLaws.{RefusalNumber, refusal-number, AssignmentRefused, assignment-rightly, UpdateRefused, update-rightly}
+use Rattle.soundness.proofs.StoredLaws.{stored-new, new-sound, stored-value, value-sound, empty-sound}
 
 -- ---- the verdict
 
@@ -82,8 +83,8 @@ execute-sound : (limit : ℕ) (m : TableMemory) (message : List ℕ) → soundTa
 unfolding executeCopy
 execute-sound limit m message s (refuse k) f = s
 execute-sound limit m message s (ignore k r) f = s
-execute-sound limit m message s (storeNew e k) (created w new room a b) = sound-new limit m s e w new room
-execute-sound limit m message s (storeUpdate id q v k) (updated held w a b) = sound-value limit m s id _ v held w
+execute-sound limit m message s (storeNew e k) (created w new room a b) = new-sound limit m s e w new room
+execute-sound limit m message s (storeUpdate id q v k) (updated held w a b) = value-sound limit m s id _ v held w
 
 -- every call of the client half keeps a sound copy sound
 pub copy-sound-kept : (limit : ℕ) (m : TableMemory) (message : List ℕ) → soundTable limit m ≡ true → soundTable limit (copyMessage limit m message .memory) ≡ true
@@ -131,7 +132,7 @@ copy-started : (limit : ℕ) (m : TableMemory) → CopyStarted limit m (copyFres
 unfolding copyFreshStart entriesOf tabulate
 copy-started limit m =
     by-test (CopyStarted limit m) (largeEnough limit (m .heads) (m .bytes)) _ _
-    (λ h. record { at-done = λ _. (sound-empty limit m h, refl) })
+    (λ h. record { at-done = λ _. (empty-sound limit m h, refl) })
     (λ _. record { at-done = λ e. absurd (omega arith) })
 
 pub copy-start-sound : (limit : ℕ) (m : TableMemory) → copyFreshStart limit m .number ≡ 0
@@ -216,7 +217,7 @@ copies-assignment limit es m h e rest w new room =
     let n : nameHeld (e .name) (entriesOf m) ≡ false = rw (h .held) new in
     let l : length (entriesOf m) < limit = rw (h .held) room in
     let holds : Holding limit (es ++ (e ∷ [])) (storeEntry m e) =
-    record { sound = sound-new limit m (h .sound) e w n l; held = stored-new limit m (h .sound) e w n l ∙ rw (h .held) } in
+    record { sound = new-sound limit m (h .sound) e w n l; held = stored-new limit m (h .sound) e w n l ∙ rw (h .held) } in
     rw (copy-step limit m (assignmentBytes (length es) e ++ rest) (h .sound), h .held, judged-assignment limit es e rest w new room)
     (record { accepted = inl refl; took = refl; holds = holds })
 
@@ -229,6 +230,6 @@ copies-update limit es m h id number value rest held w =
     let l : id < length (entriesOf m) = rw (h .held) held in
     let v : IsValue (getD (entriesOf m) id defaultEntry .type) value = rw (h .held) w in
     let holds : Holding limit (withNumberAndValue es id number value) (storeValue m id number value) =
-    record { sound = sound-value limit m (h .sound) id number value l v; held = stored-value limit m (h .sound) id number value l v ∙ rw (h .held) } in
+    record { sound = value-sound limit m (h .sound) id number value l v; held = stored-value limit m (h .sound) id number value l v ∙ rw (h .held) } in
     rw (copy-step limit m (updateBytes id number value ++ rest) (h .sound), h .held, judged-update limit es id number value rest held w)
     (record { accepted = inl refl; took = refl; holds = holds })
