@@ -1,14 +1,14 @@
 -- "The copy at the client": one message from the server.
-use Prim.Native.Nat.{ℕ, _+_}
+use Prim.Native.Nat.{ℕ}
 use mathlib.Core.List.{List}
-use lib.ListN.{length, take, drop, getD}
+use lib.ListN.{length, drop, getD}
 use lib.Dec.{ltb, eqb}
 use Rattle.field.specs.Answer.{done, ignored, incomplete, unknownKind, tableFull, nameTaken, unsound}
 use Rattle.field.specs.Choice.{pick}
 use Rattle.field.specs.Octets.{decode16}
 use Rattle.field.specs.Field.{whenThere}
 use Rattle.message.specs.Layout.{Entry, keepAliveKind, unsupportedKind, helloCompleteKind, assignmentKind, updateKind}
-use Rattle.message.specs.Reader.{idAllowed, parseAssignment}
+use Rattle.message.specs.Reader.{idAllowed, parseAssignment, nameIn, valueIn, updateValueIn, assignmentLength, updateLength}
 use Rattle.message.specs.declared.AllowedId.the-variants.{Only}
 use Rattle.message.specs.declared.AssignmentRead.{AssignmentRead}
 use Rattle.message.specs.declared.AssignmentRead.the-variants as A
@@ -29,15 +29,15 @@ pub data CopyVerdict : Type 0 where
 unfoldable pub judgeCopyAssignment : ℕ → List Entry → List ℕ → AssignmentRead → CopyVerdict
 judgeCopyAssignment limit es m (A.Refused number place) = refuse number
 judgeCopyAssignment limit es m (A.Assignment nameLength type id number valueLength) =
-    pick (nameHeld (take nameLength (drop 3 m)) es) (refuse nameTaken)
+    pick (nameHeld (nameIn nameLength m) es) (refuse nameTaken)
     (pick (ltb (length es) limit)
-    (storeNew (record { name = take nameLength (drop 3 m); type = type; number = number; value = take valueLength (drop (8 + nameLength) m) }) (8 + nameLength + valueLength))
+    (storeNew (record { name = nameIn nameLength m; type = type; number = number; value = valueIn nameLength valueLength m }) (assignmentLength nameLength valueLength))
     (refuse tableFull))
 
 -- "An update of a held ID is always stored."
 unfoldable pub judgeCopyUpdate : List ℕ → UpdateRead → CopyVerdict
 judgeCopyUpdate m (U.Refused number place) = refuse number
-judgeCopyUpdate m (U.Update id number valueLength) = storeUpdate id number (take valueLength (drop 5 m)) (5 + valueLength)
+judgeCopyUpdate m (U.Update id number valueLength) = storeUpdate id number (updateValueIn valueLength m) (updateLength valueLength)
 
 -- 0x02, "once its revision is read, which is reported"
 abbrev pub judgeUnsupported : List ℕ → CopyVerdict

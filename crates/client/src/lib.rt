@@ -14,10 +14,11 @@ ghost use mathlib.Core.List.{List};
 ghost use Prim.Native.Nat.{ℕ, _≤_};
 ghost use lib.ListN.{length};
 ghost use Rattle.message.specs.Reader.{idAllowed, parseAssignment};
-ghost use Rattle.table.specs.Table.{tableMemory, entriesOf, parseHeldUpdate};
+ghost use Rattle.table.specs.Table.{tableMemory, entriesOf, parseHeldUpdate, maxEntries};
 ghost use Rattle.soundness.specs.Sound.{soundTable};
 ghost use Rattle.client.specs.Copy.{judgeCopyAssignment, judgeCopyUpdate, judgeUnsupported, judgeCopy, executeCopy, copyMessage, copyFreshStart};
 ghost use Rattle.client.specs.Answers.{resultOf};
+ghost use Rattle.field.specs.Answer.{done, ignored};
 
 // What reading a message into the copy answers: 01's number, the revision of 0x02, bytes taken.
 #[repr(C)]
@@ -38,7 +39,7 @@ fn refused(number: u8) -> Copied
 }
 
 fn ignored(taken: usize, revision: u16) -> Copied
-    ensures { λ r. ⌜ r ≡ record { number = 16; revision = revision; taken = taken } ⌝ }
+    ensures { λ r. ⌜ r ≡ record { number = ignored; revision = revision; taken = taken } ⌝ }
 {
     Copied {
         number: field::IGNORED,
@@ -48,7 +49,7 @@ fn ignored(taken: usize, revision: u16) -> Copied
 }
 
 fn stored(taken: usize) -> Copied
-    ensures { λ r. ⌜ r ≡ record { number = 0; revision = 0; taken = taken } ⌝ }
+    ensures { λ r. ⌜ r ≡ record { number = done; revision = 0; taken = taken } ⌝ }
 {
     Copied {
         number: field::DONE,
@@ -87,8 +88,8 @@ fn refused_update(read: UpdateRead) -> Copied
 
 // An assignment: a new entry with the ID that comes next, stored with its number.
 fn copy_assignment(heads: &mut [u16], bytes: &mut [u8], count: &mut u16, m: &[u8]) -> Copied
-    requires { ⌜ (soundTable 64 (tableMemory (now heads) (now bytes) (now count)) ≡ true) × (1 ≤ length (now m)) ⌝ }
-    ensures { λ r. ⌜ resultOf r (now (heads .exit)) (now (bytes .exit)) (now (count .exit)) ≡ executeCopy (tableMemory (now (heads .entry)) (now (bytes .entry)) (now (count .entry))) (judgeCopyAssignment 64 (entriesOf (tableMemory (now (heads .entry)) (now (bytes .entry)) (now (count .entry)))) (now (m .entry)) (parseAssignment (idAllowed (AllowedId.Only (now (count .entry)))) (now (m .entry)))) ⌝ }
+    requires { ⌜ (soundTable maxEntries (tableMemory (now heads) (now bytes) (now count)) ≡ true) × (1 ≤ length (now m)) ⌝ }
+    ensures { λ r. ⌜ resultOf r (now (heads .exit)) (now (bytes .exit)) (now (count .exit)) ≡ executeCopy (tableMemory (now (heads .entry)) (now (bytes .entry)) (now (count .entry))) (judgeCopyAssignment maxEntries (entriesOf (tableMemory (now (heads .entry)) (now (bytes .entry)) (now (count .entry)))) (now (m .entry)) (parseAssignment (idAllowed (AllowedId.Only (now (count .entry)))) (now (m .entry)))) ⌝ }
 {
     let next = *count;
     let read = message::read_assignment(m, AllowedId::Only(next));
@@ -127,7 +128,7 @@ fn copy_assignment(heads: &mut [u16], bytes: &mut [u8], count: &mut u16, m: &[u8
 
 // An update of a held ID: always stored.
 fn copy_update(heads: &mut [u16], bytes: &mut [u8], count: u16, m: &[u8]) -> Copied
-    requires { ⌜ soundTable 64 (tableMemory (now heads) (now bytes) count) ≡ true ⌝ }
+    requires { ⌜ soundTable maxEntries (tableMemory (now heads) (now bytes) count) ≡ true ⌝ }
     ensures { λ r. ⌜ resultOf r (now (heads .exit)) (now (bytes .exit)) count ≡ executeCopy (tableMemory (now (heads .entry)) (now (bytes .entry)) count) (judgeCopyUpdate (now (m .entry)) (parseHeldUpdate (entriesOf (tableMemory (now (heads .entry)) (now (bytes .entry)) count)) (now (m .entry)))) ⌝ }
 {
     let read = table::read_held_update(heads, bytes, count, m);
@@ -156,8 +157,8 @@ fn copy_unsupported(m: &[u8]) -> Copied
 
 // A message of a sound copy.
 fn copy_kind(heads: &mut [u16], bytes: &mut [u8], count: &mut u16, m: &[u8]) -> Copied
-    requires { ⌜ soundTable 64 (tableMemory (now heads) (now bytes) (now count)) ≡ true ⌝ }
-    ensures { λ r. ⌜ resultOf r (now (heads .exit)) (now (bytes .exit)) (now (count .exit)) ≡ executeCopy (tableMemory (now (heads .entry)) (now (bytes .entry)) (now (count .entry))) (judgeCopy 64 (entriesOf (tableMemory (now (heads .entry)) (now (bytes .entry)) (now (count .entry)))) (now (m .entry))) ⌝ }
+    requires { ⌜ soundTable maxEntries (tableMemory (now heads) (now bytes) (now count)) ≡ true ⌝ }
+    ensures { λ r. ⌜ resultOf r (now (heads .exit)) (now (bytes .exit)) (now (count .exit)) ≡ executeCopy (tableMemory (now (heads .entry)) (now (bytes .entry)) (now (count .entry))) (judgeCopy maxEntries (entriesOf (tableMemory (now (heads .entry)) (now (bytes .entry)) (now (count .entry)))) (now (m .entry))) ⌝ }
 {
     let Octet::There(kind) = field::read_u8(m, 0) else {
         return refused(INCOMPLETE);
@@ -182,8 +183,8 @@ fn copy_kind(heads: &mut [u16], bytes: &mut [u8], count: &mut u16, m: &[u8]) -> 
 
 // The empty copy: only the count is set.
 pub fn copy_fresh(heads: &[u16], bytes: &[u8], count: &mut u16) -> u8
-    ensures { λ r. ⌜ r ≡ copyFreshStart 64 (tableMemory (now (heads .entry)) (now (bytes .entry)) (now (count .entry))) .number ⌝ }
-    ensures { λ _. ⌜ tableMemory (now (heads .entry)) (now (bytes .entry)) (now (count .exit)) ≡ copyFreshStart 64 (tableMemory (now (heads .entry)) (now (bytes .entry)) (now (count .entry))) .memory ⌝ }
+    ensures { λ r. ⌜ r ≡ copyFreshStart maxEntries (tableMemory (now (heads .entry)) (now (bytes .entry)) (now (count .entry))) .number ⌝ }
+    ensures { λ _. ⌜ tableMemory (now (heads .entry)) (now (bytes .entry)) (now (count .exit)) ≡ copyFreshStart maxEntries (tableMemory (now (heads .entry)) (now (bytes .entry)) (now (count .entry))) .memory ⌝ }
 {
     if heads.len() < table::HEAD_SIZE * table::MAX_ENTRIES {
         return UNSOUND;
@@ -197,7 +198,7 @@ pub fn copy_fresh(heads: &[u16], bytes: &[u8], count: &mut u16) -> u8
 
 // One message from the server.
 pub fn copy_receive(heads: &mut [u16], bytes: &mut [u8], count: &mut u16, m: &[u8]) -> Copied
-    ensures { λ r. ⌜ resultOf r (now (heads .exit)) (now (bytes .exit)) (now (count .exit)) ≡ copyMessage 64 (tableMemory (now (heads .entry)) (now (bytes .entry)) (now (count .entry))) (now (m .entry)) ⌝ }
+    ensures { λ r. ⌜ resultOf r (now (heads .exit)) (now (bytes .exit)) (now (count .exit)) ≡ copyMessage maxEntries (tableMemory (now (heads .entry)) (now (bytes .entry)) (now (count .entry))) (now (m .entry)) ⌝ }
 {
     if !soundness::table_is_sound(heads, bytes, *count) {
         return refused(UNSOUND);

@@ -19,7 +19,7 @@ use Rattle.table.specs.Names.{nameHeld}
 use Rattle.table.specs.Table.{entriesOf, defaultEntry, storeEntry, storeValue}
 use Rattle.answers.specs.Recipients.{Recipients, nobody, sender, allGreeted, isRecipient, recipientSet}
 use Rattle.answers.specs.Hello.{helloAnswer}
-use Rattle.server.specs.Judge.{Call, leave, clientMessage, Verdict, refuse, ignore, readDone, openMark, closeMark, acceptHello, unsupportedRevision, storeNew, storeUpdate, revision2, judge}
+use Rattle.server.specs.Judge.{Call, leave, clientMessage, Verdict, refuse, ignore, readDone, openMark, closeMark, acceptHello, unsupportedRevision, storeNew, storeUpdate, protocolRevision, judge}
 use Rattle.server.specs.Step.{ServerMemory, LentCall, CallResult, answer, withMark, withTable, execute, callStep}
 use Rattle.convergence.specs.Run.{addressedByCall, leavesOrUpdates}
 use Rattle.answers.proofs.RecipientLaws.{recipient-bit}
@@ -143,7 +143,7 @@ module _ (limit : ℕ) (call : Call) (mem : ServerMemory) (s : SoundMemory limit
   execute-follows out (acceptHello d) (VerdictIs.welcomed b h) =
       follows-mark out 3 d 1 2 (helloAnswer 0 (entriesOf (mem .table))) (sender d) h (omega arith) (λ c ne. ne-eqb c d ne)
   execute-follows out (unsupportedRevision d) (VerdictIs.turned-away b h) =
-      follows-mark out 3 d 1 0 (revisionBytes unsupportedKind revision2) (sender d) h (omega arith) (λ c ne. ne-eqb c d ne)
+      follows-mark out 3 d 1 0 (revisionBytes unsupportedKind protocolRevision) (sender d) h (omega arith) (λ c ne. ne-eqb c d ne)
   execute-follows out (storeNew e taken) (VerdictIs.created w new room) = follows-new out taken e w new room
   execute-follows out (storeUpdate id number value taken to) (VerdictIs.updated held w sent) = follows-update out taken id number value to held w sent
 

@@ -16,7 +16,7 @@ use Rattle.table.specs.Table.{entriesOf}
 use Rattle.soundness.proofs.SoundLaws.{marks-facts}
 use Rattle.answers.specs.Recipients.{sender, recipientSet}
 use Rattle.answers.specs.Hello.{helloAnswer}
-use Rattle.server.specs.Judge.{clientMessage, Verdict, refuse, acceptHello, revision2, judgeHello, judgeMessage, judge}
+use Rattle.server.specs.Judge.{clientMessage, Verdict, refuse, acceptHello, protocolRevision, judgeHello, judgeMessage, judge}
 use Rattle.server.specs.Step.{ServerMemory, CallResult, withMark, execute, callStep}
 use Rattle.convergence.specs.Run.{addressedByCall, helloCall}
 use Rattle.soundness.proofs.StoredLaws.{entries-well-formed, entries-differ, entries-fit}
@@ -26,7 +26,7 @@ use Rattle.convergence.proofs.CallLaws.{addressed-done}
 
 -- a hello for 0x0200 is accepted of an open connection, and refused otherwise
 pub hello-verdict : (limit : ℕ) (es : List Entry) (marks : List ℕ) (c : ℕ) (rest : List ℕ)
-    → judge limit es marks (clientMessage c (revisionBytes helloKind revision2 ++ rest))
+    → judge limit es marks (clientMessage c (revisionBytes helloKind protocolRevision ++ rest))
     ≡ pick (ltb c 16) (pick (eqb (getD marks c 0) 0) (refuse 3) (pick (eqb (getD marks c 0) 1) (acceptHello c) (refuse 3))) (refuse 2)
 unfolding judge judgeMessage judgeHello revisionBytes encode16 decode16 pick
 hello-verdict limit es marks c rest =
@@ -37,7 +37,7 @@ pub data HelloIs (marks : List ℕ) (c : ℕ) : Verdict → Type 0 where
   welcomed : getD marks c 0 ≡ 1 → HelloIs marks c (acceptHello c)
 
 pub hello-is : (limit : ℕ) (es : List Entry) (marks : List ℕ) (c : ℕ) (rest : List ℕ)
-    → HelloIs marks c (judge limit es marks (clientMessage c (revisionBytes helloKind revision2 ++ rest)))
+    → HelloIs marks c (judge limit es marks (clientMessage c (revisionBytes helloKind protocolRevision ++ rest)))
 hello-is limit es marks c rest =
     rw (hello-verdict limit es marks c rest)
     (by-test (HelloIs marks c) _ _ _ (λ _.

@@ -11,7 +11,7 @@ use Rattle.field.specs.Choice.{pick}
 use Rattle.message.specs.Layout.{helloKind, updateKind, revisionBytes}
 use Rattle.table.specs.Table.{TableMemory, entryAt}
 use Rattle.answers.specs.Recipients.{testBit}
-use Rattle.server.specs.Judge.{Call, openConnection, leave, clientMessage, localCreate, localWrite, readEntry, revision2}
+use Rattle.server.specs.Judge.{Call, openConnection, leave, clientMessage, localCreate, localWrite, readEntry, protocolRevision}
 use Rattle.server.specs.Step.{ServerMemory, LentCall, CallResult, callStep, freshStart}
 use Rattle.soundness.specs.Sound.{connections}
 use Rattle.client.specs.Copy.{copyMessage, copyFreshStart}
@@ -36,7 +36,7 @@ addressedBytes limit mem c (k ∷ ks) = addressedByCall c (callStep limit mem k)
 
 -- "a hello for 0x0200" of client c, whatever stands behind it, lent an output
 abbrev pub helloCall : ℕ → List ℕ → List ℕ → LentCall
-helloCall c rest out = record { call = clientMessage c (revisionBytes helloKind revision2 ++ rest); output = out }
+helloCall c rest out = record { call = clientMessage c (revisionBytes helloKind protocolRevision ++ rest); output = out }
 
 -- "leaving was called for it"; "its message 0x11"
 abbrev pub leavesOrUpdates : ℕ → Call → Bool

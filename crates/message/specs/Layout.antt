@@ -1,13 +1,12 @@
 -- Entries, and the six messages as bytes ("Layouts (001)").
-use Prim.Native.Nat.{ℕ}
-use mathlib.Core.Bool.{Bool, true}
+use Prim.Native.Nat.{ℕ, _≤_}
+use mathlib.Core.Bool.{true}
 use mathlib.Core.List.{List, [], _∷_, _++_}
 use mathlib.Core.Path.{_≡_}
-use Prim.Native.Nat.{_≤_}
 use lib.ListN.{length}
 use Rattle.field.specs.Octets.{encode16}
 use Rattle.text.specs.Utf8.{isUtf8}
-use Rattle.value.specs.Value.{knownType, IsValue}
+use Rattle.value.specs.Value.{IsValue}
 
 -- an entry of the table: its value is the encoded bytes, prefix or count included
 pub record Entry : Type 0 where
@@ -16,7 +15,7 @@ pub record Entry : Type 0 where
   pub number : ℕ
   pub value : List ℕ
 
--- "0x00 keep alive; 0x01 hello, revision (2); 0x02 unsupported, revision (2); 0x03 hello complete; 0x10 assignment; 0x11 update"
+-- kinds: "0x00 keep alive; 0x01 hello, revision (2); 0x02 unsupported, revision (2); 0x03 hello complete; 0x10 assignment: ..; 0x11 update: .."
 abbrev pub keepAliveKind : ℕ
 keepAliveKind = 0x00
 

@@ -105,17 +105,33 @@ numberOf D.HelloComplete = done
 numberOf (D.Assignment nameLength type id number valueLength) = done
 numberOf (D.Update id number valueLength) = done
 
+-- an assignment's name and value, and an update's value, cut out of the message: a name starts at byte 3, and a value ends with the message
+abbrev pub nameIn : ℕ → List ℕ → List ℕ
+nameIn nameLength m = take nameLength (drop 3 m)
+
+abbrev pub valueIn : (nameLength valueLength : ℕ) → List ℕ → List ℕ
+valueIn nameLength valueLength m = take valueLength (drop (8 + nameLength) m)
+
+abbrev pub updateValueIn : ℕ → List ℕ → List ℕ
+updateValueIn valueLength m = take valueLength (drop 5 m)
+
 -- ""Taken" is the message's own length"
+abbrev pub assignmentLength : (nameLength valueLength : ℕ) → ℕ
+assignmentLength nameLength valueLength = 8 + nameLength + valueLength
+
+abbrev pub updateLength : ℕ → ℕ
+updateLength valueLength = 5 + valueLength
+
 abbrev pub takenOf : Decoded → ℕ
 takenOf (D.Refused number place) = 0
 takenOf D.KeepAlive = 1
 takenOf (D.Hello revision) = 3
 takenOf (D.Unsupported revision) = 3
 takenOf D.HelloComplete = 1
-takenOf (D.Assignment nameLength type id number valueLength) = 8 + nameLength + valueLength
-takenOf (D.Update id number valueLength) = 5 + valueLength
+takenOf (D.Assignment nameLength type id number valueLength) = assignmentLength nameLength valueLength
+takenOf (D.Update id number valueLength) = updateLength valueLength
 
--- the message that was read: a name starts at byte 3, and a value ends with the message
+-- the message that was read
 abbrev pub contents : List ℕ → Decoded → Option Message
 contents m (D.Refused number place) = none
 contents m D.KeepAlive = some keepAlive
@@ -123,5 +139,5 @@ contents m (D.Hello revision) = some (hello revision)
 contents m (D.Unsupported revision) = some (unsupported revision)
 contents m D.HelloComplete = some helloComplete
 contents m (D.Assignment nameLength type id number valueLength) =
-    some (assignment id (record { name = take nameLength (drop 3 m); type = type; number = number; value = take valueLength (drop (8 + nameLength) m) }))
-contents m (D.Update id number valueLength) = some (update id number (take valueLength (drop 5 m)))
+    some (assignment id (record { name = nameIn nameLength m; type = type; number = number; value = valueIn nameLength valueLength m }))
+contents m (D.Update id number valueLength) = some (update id number (updateValueIn valueLength m))

@@ -8,7 +8,7 @@ use lib.Ieee as Ieee
 use lib.Ieee.{Float, binary64, ofBits}
 use Rattle.field.specs.Choice.{pick}
 use Rattle.field.specs.Octets.{decode16, bytesEqual}
-use Rattle.value.specs.Value.{boolean, double, arrayOf}
+use Rattle.value.specs.Value.{boolean, double, arrayOf, doubleSize}
 use Rattle.scalar.specs.declared.Scalar as D
 use Rattle.scalar.specs.declared.Scalar.the-variants.{Boolean, Double, Neither}
 
@@ -32,7 +32,7 @@ equalDouble v w = Ieee.eq (doubleOf v) (doubleOf w)
 -- "arrays element by element": so many elements
 unfoldable pub equalDoubles : ℕ → List ℕ → List ℕ → Bool
 equalDoubles zero v w = true
-equalDoubles (suc count) v w = equalDouble v w && equalDoubles count (drop 8 v) (drop 8 w)
+equalDoubles (suc count) v w = equalDouble v w && equalDoubles count (drop doubleSize v) (drop doubleSize w)
 
 -- "other values by their bytes"
 unfoldable pub equalValues : ℕ → List ℕ → List ℕ → Bool

@@ -1,7 +1,7 @@
 -- What a call comes to, before the room for its output is looked at: "The order in which a message is judged", "What each message does".
-use Prim.Native.Nat.{ℕ, _+_}
+use Prim.Native.Nat.{ℕ}
 use mathlib.Core.List.{List}
-use lib.ListN.{length, take, drop, getD}
+use lib.ListN.{length, drop, getD}
 use lib.Dec.{ltb, eqb}
 use Rattle.field.specs.Answer.{incomplete, connectionTooHigh, wrongState, unknownKind, unknownId, tableFull, nameTaken}
 use Rattle.field.specs.Choice.{pick}
@@ -11,7 +11,7 @@ use Rattle.sequence.specs.SequenceNumber.{start, nextNumber, passedBy}
 use Rattle.value.specs.Value.{parseLone}
 use Rattle.scalar.specs.Scalar.{equalValues}
 use Rattle.message.specs.Layout.{Entry, keepAliveKind, helloKind, assignmentKind, updateKind}
-use Rattle.message.specs.Reader.{idAllowed, parseAssignment}
+use Rattle.message.specs.Reader.{idAllowed, parseAssignment, nameIn, valueIn, updateValueIn, assignmentLength, updateLength}
 use Rattle.message.specs.declared.AllowedId.the-variants.{Only}
 use Rattle.message.specs.declared.AssignmentRead.{AssignmentRead}
 use Rattle.message.specs.declared.AssignmentRead.the-variants as A
@@ -43,9 +43,9 @@ pub data Verdict : Type 0 where
   storeNew : Entry → (taken : ℕ) → Verdict
   storeUpdate : (id number : ℕ) (value : List ℕ) (taken : ℕ) (to : Recipients) → Verdict
 
--- the revision that is spoken
-abbrev pub revision2 : ℕ
-revision2 = 0x0200
+-- the protocol revision that is spoken
+abbrev pub protocolRevision : ℕ
+protocolRevision = 0x0200
 
 -- "ID 0xFFFF": a client's assignment asks for a new ID
 abbrev pub newId : ℕ
@@ -59,25 +59,25 @@ refuseField number place = refuse number
 unfoldable pub judgeHello : (c mark : ℕ) → List ℕ → Verdict
 judgeHello c mark m =
     pick (eqb mark open′)
-    (whenThere 3 m (pick (eqb (decode16 (drop 1 m)) revision2) (acceptHello c) (unsupportedRevision c)) (refuse incomplete))
+    (whenThere 3 m (pick (eqb (decode16 (drop 1 m)) protocolRevision) (acceptHello c) (unsupportedRevision c)) (refuse incomplete))
     (refuse wrongState)
 
--- "If the name is held, 16 .. Otherwise the next ID and number 1": then 11
+-- "If the name is held, 16 .. Otherwise the next ID (0, 1, 2 ..) and number 1 (H)": 11 where the table is full
 unfoldable pub judgeAssignment : ℕ → List Entry → List ℕ → AssignmentRead → Verdict
 judgeAssignment limit es m (A.Refused number place) = refuse number
 judgeAssignment limit es m (A.Assignment nameLength type id number valueLength) =
-    pick (nameHeld (take nameLength (drop 3 m)) es) (ignore (8 + nameLength + valueLength))
+    pick (nameHeld (nameIn nameLength m) es) (ignore (assignmentLength nameLength valueLength))
     (pick (ltb (length es) limit)
-    (storeNew (record { name = take nameLength (drop 3 m); type = type; number = start; value = take valueLength (drop (8 + nameLength) m) }) (8 + nameLength + valueLength))
+    (storeNew (record { name = nameIn nameLength m; type = type; number = start; value = valueIn nameLength valueLength m }) (assignmentLength nameLength valueLength))
     (refuse tableFull))
 
--- "With d from 1 to 32,767 number and value are stored and the same update goes to all other greeted connections. Otherwise 16."
+-- "With d from 1 to 32,767 number and value are stored and the same update goes to all other greeted connections (H). Otherwise 16."
 unfoldable pub judgeUpdate : ℕ → List Entry → List ℕ → UpdateRead → Verdict
 judgeUpdate c es m (U.Refused number place) = refuse number
 judgeUpdate c es m (U.Update id number valueLength) =
     pick (passedBy (getD es id defaultEntry .number) number)
-    (storeUpdate id number (take valueLength (drop 5 m)) (5 + valueLength) (otherGreeted c))
-    (ignore (5 + valueLength))
+    (storeUpdate id number (updateValueIn valueLength m) (updateLength valueLength) (otherGreeted c))
+    (ignore (updateLength valueLength))
 
 -- "greeted only" (3)
 abbrev pub whenGreeted : ℕ → Verdict → Verdict

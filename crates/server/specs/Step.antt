@@ -15,7 +15,7 @@ use Rattle.table.specs.Table.{TableMemory, emptied, entryAt, entriesOf, storeEn
 use Rattle.soundness.specs.Sound.{largeEnough, soundTable, soundMarks, connections, closed, open′, greeted}
 use Rattle.answers.specs.Recipients.{Recipients, nobody, sender, allGreeted, recipientSet}
 use Rattle.answers.specs.Hello.{helloAnswer}
-use Rattle.server.specs.Judge.{Call, openConnection, leave, clientMessage, localCreate, localWrite, readEntry, Verdict, refuse, ignore, readDone, openMark, closeMark, acceptHello, unsupportedRevision, storeNew, storeUpdate, revision2, judge}
+use Rattle.server.specs.Judge.{Call, openConnection, leave, clientMessage, localCreate, localWrite, readEntry, Verdict, refuse, ignore, readDone, openMark, closeMark, acceptHello, unsupportedRevision, storeNew, storeUpdate, protocolRevision, judge}
 
 -- the server's lent memory: the table, and the connection marks
 pub record ServerMemory : Type 0 where
@@ -61,7 +61,7 @@ execute mem out readDone = answer mem out 0 [] nobody mem
 execute mem out (openMark c) = answer mem out 0 [] nobody (withMark mem c open′)
 execute mem out (closeMark c) = answer mem out 0 [] nobody (withMark mem c closed)
 execute mem out (acceptHello c) = answer mem out 3 (helloAnswer 0 (entriesOf (mem .table))) (sender c) (withMark mem c greeted)
-execute mem out (unsupportedRevision c) = answer mem out 3 (revisionBytes unsupportedKind revision2) (sender c) (withMark mem c closed)
+execute mem out (unsupportedRevision c) = answer mem out 3 (revisionBytes unsupportedKind protocolRevision) (sender c) (withMark mem c closed)
 execute mem out (storeNew e taken) =
     answer mem out taken (assignmentBytes (mem .table .count) e) allGreeted (withTable mem (storeEntry (mem .table) e))
 execute mem out (storeUpdate id number value taken to) =

@@ -21,14 +21,17 @@ ghost use Prim.Native.Nat.{ℕ, _≤_, _<_};
 ghost use mathlib.Core.List.{List, []};
 ghost use lib.ListN.{length, getD, replicate};
 ghost use Rattle.field.specs.Octets.{overwriteAt};
-ghost use Rattle.table.specs.Table.{Holds, tableMemory, entriesOf, parseHeldUpdate};
-ghost use Rattle.message.specs.Layout.{Entry};
+ghost use Rattle.table.specs.Table.{Holds, tableMemory, entriesOf, parseHeldUpdate, maxEntries};
+ghost use Rattle.message.specs.Layout.{Entry, maxNameLength};
 ghost use Rattle.message.specs.Reader.{idAllowed, parseAssignment, parseUpdate};
 ghost use Rattle.answers.specs.Recipients.{Recipients, recipientSet};
-ghost use Rattle.soundness.specs.Sound.{soundTable, soundMarks};
-ghost use Rattle.server.specs.Judge.{openConnection, leave, clientMessage, localCreate, localWrite, readEntry, ignore, acceptHello, unsupportedRevision, storeNew, storeUpdate, whenGreeted, judgeHello, judgeAssignment, judgeUpdate, judgeMessage, judgeCreate, judgeWrite};
+ghost use Rattle.soundness.specs.Sound.{soundTable, soundMarks, closed, connections};
+ghost use Rattle.server.specs.Judge.{openConnection, leave, clientMessage, localCreate, localWrite, readEntry, ignore, acceptHello, unsupportedRevision, storeNew, storeUpdate, whenGreeted, judgeHello, judgeAssignment, judgeUpdate, judgeMessage, judgeCreate, judgeWrite, newId};
 ghost use Rattle.server.specs.Step.{callStep, execute, freshStart, readScalar};
 ghost use Rattle.server.specs.Answers.{serverMemory, resultOf, startOf};
+ghost use Rattle.field.specs.Answer.{ignored};
+ghost use Rattle.value.specs.Value.{maxValueSize};
+ghost use Rattle.sequence.specs.SequenceNumber.{start};
 
 pub const REVISION: u16 = 0x0200;
 
@@ -56,7 +59,7 @@ fn refused(number: u8) -> Answer
 }
 
 fn is_sound(heads: &[u16], bytes: &[u8], count: u16, marks: &[u8]) -> bool
-    ensures { λ r. ⌜ r ≡ (soundTable 64 (tableMemory (now (heads .entry)) (now (bytes .entry)) count) && soundMarks (now (marks .entry))) ⌝ }
+    ensures { λ r. ⌜ r ≡ (soundTable maxEntries (tableMemory (now (heads .entry)) (now (bytes .entry)) count) && soundMarks (now (marks .entry))) ⌝ }
 {
     if !soundness::table_is_sound(heads, bytes, count) {
         return false;
@@ -75,8 +78,8 @@ fn greet(
     c: usize,
     out: &mut [u8],
 ) -> Answer
-    requires { ⌜ (c < 16) × (soundTable 64 (tableMemory (now heads) (now bytes) count) ≡ true) ⌝ }
-    requires { ⌜ 16 ≤ length (now marks) ⌝ }
+    requires { ⌜ (c < connections) × (soundTable maxEntries (tableMemory (now heads) (now bytes) count) ≡ true) ⌝ }
+    requires { ⌜ connections ≤ length (now marks) ⌝ }
     ensures { λ r. ⌜ resultOf r (now (heads .entry)) (now (bytes .entry)) count (now (marks .exit)) (now (out .exit)) ≡ execute (serverMemory (now (heads .entry)) (now (bytes .entry)) count (now (marks .entry))) (now (out .entry)) (acceptHello c) ⌝ }
 {
     let n = count as usize;
@@ -97,7 +100,7 @@ fn greet(
 
 // A hello for another revision: the sender is told which one is spoken, and closed.
 fn turn_away(marks: &mut [u8], c: usize, out: &mut [u8]) -> Answer
-    requires { ⌜ (c < 16) × (16 ≤ length (now marks)) ⌝ }
+    requires { ⌜ (c < connections) × (connections ≤ length (now marks)) ⌝ }
     ensures { λ r. ⌜ ((heads bytes : List ℕ) (count : ℕ) → resultOf r heads bytes count (now (marks .exit)) (now (out .exit)) ≡ execute (serverMemory heads bytes count (now (marks .entry))) (now (out .entry)) (unsupportedRevision c)) ⌝ }
 {
     if out.len() < 3 {
@@ -126,10 +129,10 @@ fn store_new(
     taken: usize,
     out: &mut [u8],
 ) -> Answer
-    requires { ⌜ soundTable 64 (tableMemory (now heads) (now bytes) (now count)) ≡ true ⌝ }
-    requires { ⌜ (now count < 64) × (16 ≤ length (now marks)) ⌝ }
-    requires { ⌜ (length (now name) ≤ 64) × (length (now value) ≤ 256) ⌝ }
-    ensures { λ r. ⌜ resultOf r (now (heads .exit)) (now (bytes .exit)) (now (count .exit)) (now (marks .entry)) (now (out .exit)) ≡ execute (serverMemory (now (heads .entry)) (now (bytes .entry)) (now (count .entry)) (now (marks .entry))) (now (out .entry)) (storeNew (record { name = now (name .entry); type = «type_code»; number = 1; value = now (value .entry) }) taken) ⌝ }
+    requires { ⌜ soundTable maxEntries (tableMemory (now heads) (now bytes) (now count)) ≡ true ⌝ }
+    requires { ⌜ (now count < maxEntries) × (connections ≤ length (now marks)) ⌝ }
+    requires { ⌜ (length (now name) ≤ maxNameLength) × (length (now value) ≤ maxValueSize) ⌝ }
+    ensures { λ r. ⌜ resultOf r (now (heads .exit)) (now (bytes .exit)) (now (count .exit)) (now (marks .entry)) (now (out .exit)) ≡ execute (serverMemory (now (heads .entry)) (now (bytes .entry)) (now (count .entry)) (now (marks .entry))) (now (out .entry)) (storeNew (record { name = now (name .entry); type = «type_code»; number = start; value = now (value .entry) }) taken) ⌝ }
 {
     let id = *count;
     if out.len() < 8 + name.len() + value.len() {
@@ -167,8 +170,8 @@ fn store_update(
     recipients: u16,
     out: &mut [u8],
 ) -> Answer
-    requires { ⌜ (id < 64) × Holds 64 (now heads) (now bytes) ⌝ }
-    requires { ⌜ length (now value) ≤ 256 ⌝ }
+    requires { ⌜ (id < maxEntries) × Holds maxEntries (now heads) (now bytes) ⌝ }
+    requires { ⌜ length (now value) ≤ maxValueSize ⌝ }
     ensures { λ r. ⌜ ((count : ℕ) (marks : List ℕ) (to : Recipients) → recipients ≡ recipientSet to marks → resultOf r (now (heads .exit)) (now (bytes .exit)) count marks (now (out .exit)) ≡ execute (serverMemory (now (heads .entry)) (now (bytes .entry)) count marks) (now (out .entry)) (storeUpdate id number (now (value .entry)) taken to)) ⌝ }
 {
     if out.len() < 5 + value.len() {
@@ -215,7 +218,7 @@ fn refused_update(read: UpdateRead) -> Answer
 }
 
 fn ignored(taken: usize) -> Answer
-    ensures { λ r. ⌜ r ≡ record { number = 16; recipients = 0; taken = taken; sent = 0 } ⌝ }
+    ensures { λ r. ⌜ r ≡ record { number = ignored; recipients = 0; taken = taken; sent = 0 } ⌝ }
 {
     Answer {
         number: IGNORED,
@@ -234,8 +237,8 @@ fn receive_hello(
     m: &[u8],
     out: &mut [u8],
 ) -> Answer
-    requires { ⌜ (c < 16) × (soundTable 64 (tableMemory (now heads) (now bytes) count) ≡ true) ⌝ }
-    requires { ⌜ 16 ≤ length (now marks) ⌝ }
+    requires { ⌜ (c < connections) × (soundTable maxEntries (tableMemory (now heads) (now bytes) count) ≡ true) ⌝ }
+    requires { ⌜ connections ≤ length (now marks) ⌝ }
     ensures { λ r. ⌜ resultOf r (now (heads .entry)) (now (bytes .entry)) count (now (marks .exit)) (now (out .exit)) ≡ execute (serverMemory (now (heads .entry)) (now (bytes .entry)) count (now (marks .entry))) (now (out .entry)) (judgeHello c (getD (now (marks .entry)) c 0) (now (m .entry))) ⌝ }
 {
     if marks[c] != soundness::OPEN {
@@ -259,9 +262,9 @@ fn receive_assignment(
     m: &[u8],
     out: &mut [u8],
 ) -> Answer
-    requires { ⌜ soundTable 64 (tableMemory (now heads) (now bytes) (now count)) ≡ true ⌝ }
-    requires { ⌜ (c < 16) × (16 ≤ length (now marks)) × (1 ≤ length (now m)) ⌝ }
-    ensures { λ r. ⌜ resultOf r (now (heads .exit)) (now (bytes .exit)) (now (count .exit)) (now (marks .entry)) (now (out .exit)) ≡ execute (serverMemory (now (heads .entry)) (now (bytes .entry)) (now (count .entry)) (now (marks .entry))) (now (out .entry)) (whenGreeted (getD (now (marks .entry)) c 0) (judgeAssignment 64 (entriesOf (tableMemory (now (heads .entry)) (now (bytes .entry)) (now (count .entry)))) (now (m .entry)) (parseAssignment (idAllowed (AllowedId.Only 65535)) (now (m .entry))))) ⌝ }
+    requires { ⌜ soundTable maxEntries (tableMemory (now heads) (now bytes) (now count)) ≡ true ⌝ }
+    requires { ⌜ (c < connections) × (connections ≤ length (now marks)) × (1 ≤ length (now m)) ⌝ }
+    ensures { λ r. ⌜ resultOf r (now (heads .exit)) (now (bytes .exit)) (now (count .exit)) (now (marks .entry)) (now (out .exit)) ≡ execute (serverMemory (now (heads .entry)) (now (bytes .entry)) (now (count .entry)) (now (marks .entry))) (now (out .entry)) (whenGreeted (getD (now (marks .entry)) c 0) (judgeAssignment maxEntries (entriesOf (tableMemory (now (heads .entry)) (now (bytes .entry)) (now (count .entry)))) (now (m .entry)) (parseAssignment (idAllowed (AllowedId.Only newId)) (now (m .entry))))) ⌝ }
 {
     if marks[c] != soundness::GREETED {
         return refused(WRONG_STATE);
@@ -309,8 +312,8 @@ fn receive_update(
     m: &[u8],
     out: &mut [u8],
 ) -> Answer
-    requires { ⌜ soundTable 64 (tableMemory (now heads) (now bytes) count) ≡ true ⌝ }
-    requires { ⌜ (c < 16) × (16 ≤ length (now marks)) ⌝ }
+    requires { ⌜ soundTable maxEntries (tableMemory (now heads) (now bytes) count) ≡ true ⌝ }
+    requires { ⌜ (c < connections) × (connections ≤ length (now marks)) ⌝ }
     ensures { λ r. ⌜ resultOf r (now (heads .exit)) (now (bytes .exit)) count (now (marks .entry)) (now (out .exit)) ≡ execute (serverMemory (now (heads .entry)) (now (bytes .entry)) count (now (marks .entry))) (now (out .entry)) (whenGreeted (getD (now (marks .entry)) c 0) (judgeUpdate c (entriesOf (tableMemory (now (heads .entry)) (now (bytes .entry)) count)) (now (m .entry)) (parseHeldUpdate (entriesOf (tableMemory (now (heads .entry)) (now (bytes .entry)) count)) (now (m .entry))))) ⌝ }
 {
     if marks[c] != soundness::GREETED {
@@ -354,9 +357,9 @@ fn receive_kind(
     m: &[u8],
     out: &mut [u8],
 ) -> Answer
-    requires { ⌜ (c < 16) × (soundTable 64 (tableMemory (now heads) (now bytes) (now count)) ≡ true) ⌝ }
-    requires { ⌜ 16 ≤ length (now marks) ⌝ }
-    ensures { λ r. ⌜ resultOf r (now (heads .exit)) (now (bytes .exit)) (now (count .exit)) (now (marks .exit)) (now (out .exit)) ≡ execute (serverMemory (now (heads .entry)) (now (bytes .entry)) (now (count .entry)) (now (marks .entry))) (now (out .entry)) (judgeMessage 64 (entriesOf (tableMemory (now (heads .entry)) (now (bytes .entry)) (now (count .entry)))) c (getD (now (marks .entry)) c 0) (now (m .entry))) ⌝ }
+    requires { ⌜ (c < connections) × (soundTable maxEntries (tableMemory (now heads) (now bytes) (now count)) ≡ true) ⌝ }
+    requires { ⌜ connections ≤ length (now marks) ⌝ }
+    ensures { λ r. ⌜ resultOf r (now (heads .exit)) (now (bytes .exit)) (now (count .exit)) (now (marks .exit)) (now (out .exit)) ≡ execute (serverMemory (now (heads .entry)) (now (bytes .entry)) (now (count .entry)) (now (marks .entry))) (now (out .entry)) (judgeMessage maxEntries (entriesOf (tableMemory (now (heads .entry)) (now (bytes .entry)) (now (count .entry)))) c (getD (now (marks .entry)) c 0) (now (m .entry))) ⌝ }
 {
     let Octet::There(kind) = field::read_u8(m, 0) else {
         return refused(INCOMPLETE);
@@ -379,8 +382,8 @@ fn receive_kind(
 // ---- the calls
 
 fn close_all(marks: &mut [u8])
-    requires { ⌜ 16 ≤ length (now marks) ⌝ }
-    ensures { λ _. ⌜ now (marks .exit) ≡ overwriteAt (now (marks .entry)) 0 (replicate 16 0) ⌝ }
+    requires { ⌜ connections ≤ length (now marks) ⌝ }
+    ensures { λ _. ⌜ now (marks .exit) ≡ overwriteAt (now (marks .entry)) 0 (replicate connections closed) ⌝ }
 {
     let mut c = 0;
     while c < soundness::CONNECTIONS {
@@ -391,8 +394,8 @@ fn close_all(marks: &mut [u8])
 
 // Memory for a fresh start: the count becomes 0, and all connections are closed.
 pub fn fresh(heads: &[u16], bytes: &[u8], count: &mut u16, marks: &mut [u8]) -> Answer
-    ensures { λ r. ⌜ r ≡ startOf (freshStart 64 (serverMemory (now (heads .entry)) (now (bytes .entry)) (now (count .entry)) (now (marks .entry)))) ⌝ }
-    ensures { λ _. ⌜ serverMemory (now (heads .entry)) (now (bytes .entry)) (now (count .exit)) (now (marks .exit)) ≡ freshStart 64 (serverMemory (now (heads .entry)) (now (bytes .entry)) (now (count .entry)) (now (marks .entry))) .memory ⌝ }
+    ensures { λ r. ⌜ r ≡ startOf (freshStart maxEntries (serverMemory (now (heads .entry)) (now (bytes .entry)) (now (count .entry)) (now (marks .entry)))) ⌝ }
+    ensures { λ _. ⌜ serverMemory (now (heads .entry)) (now (bytes .entry)) (now (count .exit)) (now (marks .exit)) ≡ freshStart maxEntries (serverMemory (now (heads .entry)) (now (bytes .entry)) (now (count .entry)) (now (marks .entry))) .memory ⌝ }
 {
     if heads.len() < table::HEAD_SIZE * table::MAX_ENTRIES {
         return refused(UNSOUND);
@@ -410,7 +413,7 @@ pub fn fresh(heads: &[u16], bytes: &[u8], count: &mut u16, marks: &mut [u8]) -> 
 
 // A connection opens.
 pub fn open(heads: &[u16], bytes: &[u8], count: u16, marks: &mut [u8], c: usize) -> Answer
-    ensures { λ r. ⌜ resultOf r (now (heads .entry)) (now (bytes .entry)) count (now (marks .exit)) [] ≡ callStep 64 (serverMemory (now (heads .entry)) (now (bytes .entry)) count (now (marks .entry))) (record { call = openConnection c; output = [] }) ⌝ }
+    ensures { λ r. ⌜ resultOf r (now (heads .entry)) (now (bytes .entry)) count (now (marks .exit)) [] ≡ callStep maxEntries (serverMemory (now (heads .entry)) (now (bytes .entry)) count (now (marks .entry))) (record { call = openConnection c; output = [] }) ⌝ }
 {
     if !is_sound(heads, bytes, count, marks) {
         return refused(UNSOUND);
@@ -433,7 +436,7 @@ pub fn leave_connection(
     marks: &mut [u8],
     c: usize,
 ) -> Answer
-    ensures { λ r. ⌜ resultOf r (now (heads .entry)) (now (bytes .entry)) count (now (marks .exit)) [] ≡ callStep 64 (serverMemory (now (heads .entry)) (now (bytes .entry)) count (now (marks .entry))) (record { call = leave c; output = [] }) ⌝ }
+    ensures { λ r. ⌜ resultOf r (now (heads .entry)) (now (bytes .entry)) count (now (marks .exit)) [] ≡ callStep maxEntries (serverMemory (now (heads .entry)) (now (bytes .entry)) count (now (marks .entry))) (record { call = leave c; output = [] }) ⌝ }
 {
     if !is_sound(heads, bytes, count, marks) {
         return refused(UNSOUND);
@@ -458,7 +461,7 @@ pub fn receive(
     m: &[u8],
     out: &mut [u8],
 ) -> Answer
-    ensures { λ r. ⌜ resultOf r (now (heads .exit)) (now (bytes .exit)) (now (count .exit)) (now (marks .exit)) (now (out .exit)) ≡ callStep 64 (serverMemory (now (heads .entry)) (now (bytes .entry)) (now (count .entry)) (now (marks .entry))) (record { call = clientMessage c (now (m .entry)); output = now (out .entry) }) ⌝ }
+    ensures { λ r. ⌜ resultOf r (now (heads .exit)) (now (bytes .exit)) (now (count .exit)) (now (marks .exit)) (now (out .exit)) ≡ callStep maxEntries (serverMemory (now (heads .entry)) (now (bytes .entry)) (now (count .entry)) (now (marks .entry))) (record { call = clientMessage c (now (m .entry)); output = now (out .entry) }) ⌝ }
 {
     if !is_sound(heads, bytes, *count, marks) {
         return refused(UNSOUND);
@@ -492,9 +495,9 @@ fn create_sound(
     value: &[u8],
     out: &mut [u8],
 ) -> Answer
-    requires { ⌜ soundTable 64 (tableMemory (now heads) (now bytes) (now count)) ≡ true ⌝ }
-    requires { ⌜ 16 ≤ length (now marks) ⌝ }
-    ensures { λ r. ⌜ resultOf r (now (heads .exit)) (now (bytes .exit)) (now (count .exit)) (now (marks .entry)) (now (out .exit)) ≡ execute (serverMemory (now (heads .entry)) (now (bytes .entry)) (now (count .entry)) (now (marks .entry))) (now (out .entry)) (judgeCreate 64 (entriesOf (tableMemory (now (heads .entry)) (now (bytes .entry)) (now (count .entry)))) (now (name .entry)) «type_code» (now (value .entry))) ⌝ }
+    requires { ⌜ soundTable maxEntries (tableMemory (now heads) (now bytes) (now count)) ≡ true ⌝ }
+    requires { ⌜ connections ≤ length (now marks) ⌝ }
+    ensures { λ r. ⌜ resultOf r (now (heads .exit)) (now (bytes .exit)) (now (count .exit)) (now (marks .entry)) (now (out .exit)) ≡ execute (serverMemory (now (heads .entry)) (now (bytes .entry)) (now (count .entry)) (now (marks .entry))) (now (out .entry)) (judgeCreate maxEntries (entriesOf (tableMemory (now (heads .entry)) (now (bytes .entry)) (now (count .entry)))) (now (name .entry)) «type_code» (now (value .entry))) ⌝ }
 {
     let checked = writer::check_name(name);
     let Parsed::Taken(_) = checked else {
@@ -525,7 +528,7 @@ pub fn create(
     value: &[u8],
     out: &mut [u8],
 ) -> Answer
-    ensures { λ r. ⌜ resultOf r (now (heads .exit)) (now (bytes .exit)) (now (count .exit)) (now (marks .entry)) (now (out .exit)) ≡ callStep 64 (serverMemory (now (heads .entry)) (now (bytes .entry)) (now (count .entry)) (now (marks .entry))) (record { call = localCreate (now (name .entry)) «type_code» (now (value .entry)); output = now (out .entry) }) ⌝ }
+    ensures { λ r. ⌜ resultOf r (now (heads .exit)) (now (bytes .exit)) (now (count .exit)) (now (marks .entry)) (now (out .exit)) ≡ callStep maxEntries (serverMemory (now (heads .entry)) (now (bytes .entry)) (now (count .entry)) (now (marks .entry))) (record { call = localCreate (now (name .entry)) «type_code» (now (value .entry)); output = now (out .entry) }) ⌝ }
 {
     if !is_sound(heads, bytes, *count, marks) {
         return refused(UNSOUND);
@@ -543,8 +546,8 @@ fn write_sound(
     value: &[u8],
     out: &mut [u8],
 ) -> Answer
-    requires { ⌜ soundTable 64 (tableMemory (now heads) (now bytes) count) ≡ true ⌝ }
-    requires { ⌜ 16 ≤ length (now marks) ⌝ }
+    requires { ⌜ soundTable maxEntries (tableMemory (now heads) (now bytes) count) ≡ true ⌝ }
+    requires { ⌜ connections ≤ length (now marks) ⌝ }
     ensures { λ r. ⌜ resultOf r (now (heads .exit)) (now (bytes .exit)) count (now (marks .entry)) (now (out .exit)) ≡ execute (serverMemory (now (heads .entry)) (now (bytes .entry)) count (now (marks .entry))) (now (out .entry)) (judgeWrite (entriesOf (tableMemory (now (heads .entry)) (now (bytes .entry)) count)) id (now (value .entry))) ⌝ }
 {
     if id >= count {
@@ -577,7 +580,7 @@ pub fn write(
     value: &[u8],
     out: &mut [u8],
 ) -> Answer
-    ensures { λ r. ⌜ resultOf r (now (heads .exit)) (now (bytes .exit)) count (now (marks .entry)) (now (out .exit)) ≡ callStep 64 (serverMemory (now (heads .entry)) (now (bytes .entry)) count (now (marks .entry))) (record { call = localWrite id (now (value .entry)); output = now (out .entry) }) ⌝ }
+    ensures { λ r. ⌜ resultOf r (now (heads .exit)) (now (bytes .exit)) count (now (marks .entry)) (now (out .exit)) ≡ callStep maxEntries (serverMemory (now (heads .entry)) (now (bytes .entry)) count (now (marks .entry))) (record { call = localWrite id (now (value .entry)); output = now (out .entry) }) ⌝ }
 {
     if !is_sound(heads, bytes, count, marks) {
         return refused(UNSOUND);
@@ -587,7 +590,7 @@ pub fn write(
 
 // Reading an entry.
 pub fn read(heads: &[u16], bytes: &[u8], count: u16, id: u16) -> Scalar
-    ensures { λ r. ⌜ r ≡ readScalar 64 (tableMemory (now (heads .entry)) (now (bytes .entry)) count) id ⌝ }
+    ensures { λ r. ⌜ r ≡ readScalar maxEntries (tableMemory (now (heads .entry)) (now (bytes .entry)) count) id ⌝ }
 {
     if !soundness::table_is_sound(heads, bytes, count) {
         return Scalar::Refused(UNSOUND);

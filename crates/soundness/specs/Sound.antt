@@ -30,7 +30,7 @@ soundEntry heads bytes i =
     leb (headField heads i nameLengthField) maxNameLength && leb (headField heads i valueLengthField) maxValueSize
     && isUtf8 (entryAt heads bytes i .name) && accepted (parseLone (entryAt heads bytes i .type) (entryAt heads bytes i .value))
 
--- "Too small means fewer than 64 heads, 20,480 bytes"
+-- not too small: "Too small means fewer than 64 heads, 20,480 bytes .."
 unfoldable pub largeEnough : ℕ → List ℕ → List ℕ → Bool
 largeEnough limit heads bytes = leb (headSize * limit) (length heads) && leb (entrySize * limit) (length bytes)
 

@@ -3,7 +3,7 @@ use field::Parsed;
 ghost use mathlib.Core.Path.{_≡_};
 ghost use Prim.Native.Nat.{_≤_, _<_};
 ghost use Rattle.table.specs.Names.{namesDiffer};
-ghost use Rattle.table.specs.Table.{Holds, Named, entryAt, tabulate};
+ghost use Rattle.table.specs.Table.{Holds, Named, entryAt, tabulate, maxEntries};
 ghost use Rattle.soundness.specs.Sound.{accepted, allBelow, soundEntry, soundTable, soundMarks};
 
 pub const CONNECTIONS: usize = 16;
@@ -26,17 +26,17 @@ fn is_accepted(p: Parsed) -> bool
 
 // Whether entry i has a name and a value that obey the paper.
 fn entry_is_sound(heads: &[u16], bytes: &[u8], i: usize) -> bool
-    requires { ⌜ (i < 64) × Holds 64 (now heads) (now bytes) ⌝ }
+    requires { ⌜ (i < maxEntries) × Holds maxEntries (now heads) (now bytes) ⌝ }
     ensures { λ r. ⌜ r ≡ soundEntry (now (heads .entry)) (now (bytes .entry)) i ⌝ }
 {
     let head = table::HEAD_SIZE * i;
     let name_length = heads[head] as usize;
-    let value_length = heads[head + 1] as usize;
-    let type_code = heads[head + 2];
-    if name_length > 64 {
+    let value_length = heads[head + table::VALUE_LENGTH] as usize;
+    let type_code = heads[head + table::TYPE];
+    if name_length > table::NAME_SIZE {
         return false;
     }
-    if value_length > 256 {
+    if value_length > table::VALUE_SIZE {
         return false;
     }
     let name_at = table::ENTRY_SIZE * i;
@@ -53,7 +53,7 @@ fn entry_is_sound(heads: &[u16], bytes: &[u8], i: usize) -> bool
 }
 
 fn entries_are_sound(heads: &[u16], bytes: &[u8], count: usize) -> bool
-    requires { ⌜ (count ≤ 64) × Holds 64 (now heads) (now bytes) ⌝ }
+    requires { ⌜ (count ≤ maxEntries) × Holds maxEntries (now heads) (now bytes) ⌝ }
     ensures { λ r. ⌜ r ≡ allBelow count (soundEntry (now (heads .entry)) (now (bytes .entry))) ⌝ }
 {
     let mut i = 0;
@@ -68,7 +68,7 @@ fn entries_are_sound(heads: &[u16], bytes: &[u8], count: usize) -> bool
 
 // Whether the names of so many entries all differ: none is held by an entry before it.
 fn names_differ(heads: &[u16], bytes: &[u8], count: usize) -> bool
-    requires { ⌜ (count ≤ 64) × Named count (now heads) (now bytes) ⌝ }
+    requires { ⌜ (count ≤ maxEntries) × Named count (now heads) (now bytes) ⌝ }
     ensures { λ r. ⌜ r ≡ namesDiffer (tabulate count (entryAt (now (heads .entry)) (now (bytes .entry)))) ⌝ }
 {
     let mut i = 0;
@@ -86,12 +86,12 @@ fn names_differ(heads: &[u16], bytes: &[u8], count: usize) -> bool
 
 // Whether a lent table is sound, with room for 64 entries.
 pub fn table_is_sound(heads: &[u16], bytes: &[u8], count: u16) -> bool
-    ensures { λ r. ⌜ r ≡ soundTable 64 (record { heads = now (heads .entry); bytes = now (bytes .entry); count = count }) ⌝ }
+    ensures { λ r. ⌜ r ≡ soundTable maxEntries (record { heads = now (heads .entry); bytes = now (bytes .entry); count = count }) ⌝ }
 {
-    if heads.len() < 256 {
+    if heads.len() < table::HEADS_SIZE {
         return false;
     }
-    if bytes.len() < 20480 {
+    if bytes.len() < table::BYTES_SIZE {
         return false;
     }
     if count > 64 {

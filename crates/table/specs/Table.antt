@@ -48,7 +48,7 @@ nameStart i = entrySize * i
 abbrev pub valueStart : ℕ → ℕ
 valueStart i = entrySize * i + maxNameLength
 
--- memory for so many entries: "Too small means fewer than 64 heads, 20,480 bytes"
+-- memory for so many entries, as inner functions require it
 pub record Holds (limit : ℕ) (heads bytes : List ℕ) : Type 0 where
   pub heads-hold : headSize * limit ≤ length heads
   pub bytes-hold : entrySize * limit ≤ length bytes
@@ -70,12 +70,12 @@ entryAt heads bytes i =
       value = part (valueStart i) (headField heads i valueLengthField) bytes;
     }
 
--- the first n entries have names that are within memory
+-- the first n entries have names that are within memory, as inner functions require it
 pub record Named (n : ℕ) (heads bytes : List ℕ) : Type 0 where
   pub holds : Holds n heads bytes
   pub names-fit : (i : ℕ) → i < n → headField heads i nameLengthField ≤ maxNameLength
 
--- the first n entries can be written: names and values are within memory, and a type is a byte
+-- the first n entries can be written, as inner functions require it: names and values are within memory, and a type is a byte
 pub record Readable (n : ℕ) (heads bytes : List ℕ) : Type 0 where
   pub named : Named n heads bytes
   pub values-fit : (i : ℕ) → i < n → headField heads i valueLengthField ≤ maxValueSize

@@ -7,7 +7,9 @@ ghost use mathlib.Core.Path.{_≡_};
 ghost use Prim.Native.Nat.{_≤_, _<_};
 ghost use lib.ListN.{length};
 ghost use Rattle.table.specs.Names.{holder};
-ghost use Rattle.table.specs.Table.{Holds, Named, Readable, parseHeldUpdate, entryAt, tabulate, headsWithEntry, bytesWithEntry, headsWithValue, bytesWithValue};
+ghost use Rattle.table.specs.Table.{Holds, Named, Readable, parseHeldUpdate, entryAt, tabulate, headsWithEntry, bytesWithEntry, headsWithValue, bytesWithValue, maxEntries};
+ghost use Rattle.message.specs.Layout.{maxNameLength};
+ghost use Rattle.value.specs.Value.{maxValueSize};
 
 pub const MAX_ENTRIES: usize = 64;
 
@@ -16,12 +18,26 @@ pub const ENTRY_SIZE: usize = 320;
 
 pub const NAME_SIZE: usize = 64;
 
+pub const VALUE_SIZE: usize = 256;
+
 // A head's numbers: the name's length, the value's length, type and number.
 pub const HEAD_SIZE: usize = 4;
 
+// A head's numbers past the first, by their place in it.
+pub const VALUE_LENGTH: usize = 1;
+
+pub const TYPE: usize = 2;
+
+pub const NUMBER: usize = 3;
+
+// The numbers of all heads, and the bytes of all entries.
+pub const HEADS_SIZE: usize = HEAD_SIZE * MAX_ENTRIES;
+
+pub const BYTES_SIZE: usize = ENTRY_SIZE * MAX_ENTRIES;
+
 // The ID of the first of so many entries whose name is equal, or their count where there is none.
 pub fn find_name(heads: &[u16], bytes: &[u8], count: usize, name: &[u8]) -> usize
-    requires { ⌜ count ≤ 64 ⌝ }
+    requires { ⌜ count ≤ maxEntries ⌝ }
     requires { ⌜ Named count (now heads) (now bytes) ⌝ }
     ensures { λ r. ⌜ r ≡ holder (now (name .entry)) (tabulate count (entryAt (now (heads .entry)) (now (bytes .entry)))) ⌝ }
 {
@@ -61,7 +77,7 @@ pub fn read_held_update(heads: &[u16], bytes: &[u8], count: u16, m: &[u8]) -> Up
     if id >= count {
         return UpdateRead::Refused(UNKNOWN_ID, 1);
     }
-    let type_at = HEAD_SIZE * (id as usize) + 2;
+    let type_at = HEAD_SIZE * (id as usize) + TYPE;
     let type_code = heads[type_at] as u8;
     message::read_update(m, type_code)
 }
@@ -76,30 +92,30 @@ pub fn store_entry(
     number: u16,
     value: &[u8],
 )
-    requires { ⌜ (id < 64) × Holds 64 (now heads) (now bytes) ⌝ }
-    requires { ⌜ (length (now name) ≤ 64) × (length (now value) ≤ 256) ⌝ }
+    requires { ⌜ (id < maxEntries) × Holds maxEntries (now heads) (now bytes) ⌝ }
+    requires { ⌜ (length (now name) ≤ maxNameLength) × (length (now value) ≤ maxValueSize) ⌝ }
     ensures { λ _. ⌜ now (heads .exit) ≡ headsWithEntry (now (heads .entry)) id (record { name = now (name .entry); type = «type_code»; number = number; value = now (value .entry) }) ⌝ }
     ensures { λ _. ⌜ now (bytes .exit) ≡ bytesWithEntry (now (bytes .entry)) id (record { name = now (name .entry); type = «type_code»; number = number; value = now (value .entry) }) ⌝ }
 {
     let head = HEAD_SIZE * id;
     let name_at = ENTRY_SIZE * id;
     heads[head] = name.len() as u16;
-    heads[head + 1] = value.len() as u16;
-    heads[head + 2] = type_code;
-    heads[head + 3] = number;
+    heads[head + VALUE_LENGTH] = value.len() as u16;
+    heads[head + TYPE] = type_code;
+    heads[head + NUMBER] = number;
     field::copy_into(bytes, name_at, name);
     field::copy_into(bytes, name_at + NAME_SIZE, value);
 }
 
 // Stores another number and value of an entry.
 pub fn store_value(heads: &mut [u16], bytes: &mut [u8], id: usize, number: u16, value: &[u8])
-    requires { ⌜ (id < 64) × Holds 64 (now heads) (now bytes) ⌝ }
-    requires { ⌜ length (now value) ≤ 256 ⌝ }
+    requires { ⌜ (id < maxEntries) × Holds maxEntries (now heads) (now bytes) ⌝ }
+    requires { ⌜ length (now value) ≤ maxValueSize ⌝ }
     ensures { λ _. ⌜ now (heads .exit) ≡ headsWithValue (now (heads .entry)) id number (now (value .entry)) ⌝ }
     ensures { λ _. ⌜ now (bytes .exit) ≡ bytesWithValue (now (bytes .entry)) id (now (value .entry)) ⌝ }
 {
     let head = HEAD_SIZE * id;
-    heads[head + 1] = value.len() as u16;
-    heads[head + 3] = number;
+    heads[head + VALUE_LENGTH] = value.len() as u16;
+    heads[head + NUMBER] = number;
     field::copy_into(bytes, ENTRY_SIZE * id + NAME_SIZE, value);
 }

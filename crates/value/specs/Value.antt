@@ -37,9 +37,13 @@ maxValueSize = 256
 unfoldable pub parseBoolean : List ℕ → Parsed
 parseBoolean s = whenThere 1 s (pick (leb (getD s 0 0) 1) (Taken 1) (Refused badBoolean 0)) (Refused incomplete 0)
 
--- "eight bytes, every pattern allowed"
+-- "Double, eight bytes"
+abbrev pub doubleSize : ℕ
+doubleSize = 8
+
+-- "every pattern allowed"
 unfoldable pub parseDouble : List ℕ → Parsed
-parseDouble s = whenThere 8 s (Taken 8) (Refused incomplete 0)
+parseDouble s = whenThere doubleSize s (Taken doubleSize) (Refused incomplete 0)
 
 -- a Boolean, Double or String, where sizeSoFar bytes of its array came before it:
 -- "each element of an array is judged as a lone value would be"
@@ -50,7 +54,7 @@ parseElement element sizeSoFar =
 -- "Boolean and Double arrays are checked for size at the count, String arrays at each element's prefix"
 unfoldable pub countFits : ℕ → ℕ → Bool
 countFits element count =
-    pick (eqb element boolean) (leb (1 + count) maxValueSize) (pick (eqb element double) (leb (1 + 8 * count) maxValueSize) true)
+    pick (eqb element boolean) (leb (1 + count) maxValueSize) (pick (eqb element double) (leb (1 + doubleSize * count) maxValueSize) true)
 
 -- so many elements in order, where sizeSoFar bytes of the array came before: the size with them
 unfoldable pub elements : (ℕ → List ℕ → Parsed) → ℕ → ℕ → List ℕ → Parsed

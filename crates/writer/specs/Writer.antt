@@ -66,7 +66,7 @@ abbrev pub bytesOf : Checked → List ℕ
 bytesOf (refused number) = []
 bytesOf (allowed m) = layout m
 
--- the fields are allowed, and their message has room
+-- the fields are allowed, and their message has room, as an inner function requires it
 pub data Ready (room : ℕ) : Checked → Type 0 where
   ready : {m : Message} → length (layout m) ≤ room → Ready room (allowed m)
 

@@ -16,7 +16,7 @@ ghost use mathlib.Core.List.{_∷_, []};
 ghost use Prim.Native.Nat.{ℕ, _+_, _≤_};
 ghost use lib.ListN.{length};
 ghost use Rattle.field.specs.Octets.{overwriteAt};
-ghost use Rattle.message.specs.Layout.{assignmentBytes, updateBytes, revisionBytes};
+ghost use Rattle.message.specs.Layout.{assignmentBytes, updateBytes, revisionBytes, maxNameLength};
 ghost use Rattle.writer.specs.Writer.{checkName, checkAssignment, checkUpdate, check, neededFor, bytesOf, Ready, answerOf, outputOf};
 
 // What the writer answers: a refusal's number, or how many bytes of the output are the message.
@@ -62,7 +62,7 @@ pub fn write_assignment(
     number: u16,
     value: &[u8],
 ) -> usize
-    requires { ⌜ length (now name) ≤ 64 ⌝ }
+    requires { ⌜ length (now name) ≤ maxNameLength ⌝ }
     requires { ⌜ length (now name) + length (now value) + 8 ≤ length (now out) ⌝ }
     ensures { λ r. ⌜ r ≡ length (assignmentBytes id (record { name = now (name .entry); type = «type_code»; number = number; value = now (value .entry) })) ⌝ }
     ensures { λ _. ⌜ now (out .exit) ≡ overwriteAt (now (out .entry)) 0 (assignmentBytes id (record { name = now (name .entry); type = «type_code»; number = number; value = now (value .entry) })) ⌝ }
