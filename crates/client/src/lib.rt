@@ -149,7 +149,7 @@ fn copy_update(heads: &mut [u16], bytes: &mut [u8], count: u16, m: &[u8]) -> Cop
 fn copy_unsupported(m: &[u8]) -> Copied
     ensures { λ r. ⌜ ((heads bytes : List ℕ) (count : ℕ) → resultOf r heads bytes count ≡ executeCopy (tableMemory heads bytes count) (judgeUnsupported (now (m .entry)))) ⌝ }
 {
-    let Number::There(revision) = field::read_u16(m, 1) else {
+    let Number::There(revision) = reader::behind_kind(m) else {
         return refused(INCOMPLETE);
     };
     ignored(3, revision)
@@ -160,7 +160,7 @@ fn copy_kind(heads: &mut [u16], bytes: &mut [u8], count: &mut u16, m: &[u8]) -> 
     requires { ⌜ soundTable maxEntries (tableMemory (now heads) (now bytes) (now count)) ≡ true ⌝ }
     ensures { λ r. ⌜ resultOf r (now (heads .exit)) (now (bytes .exit)) (now (count .exit)) ≡ executeCopy (tableMemory (now (heads .entry)) (now (bytes .entry)) (now (count .entry))) (judgeCopy maxEntries (entriesOf (tableMemory (now (heads .entry)) (now (bytes .entry)) (now (count .entry)))) (now (m .entry))) ⌝ }
 {
-    let Octet::There(kind) = field::read_u8(m, 0) else {
+    let Octet::There(kind) = reader::kind(m) else {
         return refused(INCOMPLETE);
     };
     if kind == message::KEEP_ALIVE {

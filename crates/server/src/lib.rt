@@ -244,7 +244,7 @@ fn receive_hello(
     if marks[c] != soundness::OPEN {
         return refused(WRONG_STATE);
     }
-    let Number::There(revision) = field::read_u16(m, 1) else {
+    let Number::There(revision) = reader::behind_kind(m) else {
         return refused(INCOMPLETE);
     };
     if revision == REVISION {
@@ -361,7 +361,7 @@ fn receive_kind(
     requires { ⌜ connections ≤ length (now marks) ⌝ }
     ensures { λ r. ⌜ resultOf r (now (heads .exit)) (now (bytes .exit)) (now (count .exit)) (now (marks .exit)) (now (out .exit)) ≡ execute (serverMemory (now (heads .entry)) (now (bytes .entry)) (now (count .entry)) (now (marks .entry))) (now (out .entry)) (judgeMessage maxEntries (entriesOf (tableMemory (now (heads .entry)) (now (bytes .entry)) (now (count .entry)))) c (getD (now (marks .entry)) c 0) (now (m .entry))) ⌝ }
 {
-    let Octet::There(kind) = field::read_u8(m, 0) else {
+    let Octet::There(kind) = reader::kind(m) else {
         return refused(INCOMPLETE);
     };
     if kind == message::KEEP_ALIVE {

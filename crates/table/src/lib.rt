@@ -71,7 +71,7 @@ pub fn read_held_update(heads: &[u16], bytes: &[u8], count: u16, m: &[u8]) -> Up
     requires { ⌜ Readable count (now heads) (now bytes) ⌝ }
     ensures { λ r. ⌜ r ≡ parseHeldUpdate (tabulate count (entryAt (now (heads .entry)) (now (bytes .entry)))) (now (m .entry)) ⌝ }
 {
-    let Number::There(id) = field::read_u16(m, 1) else {
+    let Number::There(id) = reader::behind_kind(m) else {
         return UpdateRead::Refused(INCOMPLETE, 1);
     };
     if id >= count {

@@ -12,12 +12,12 @@ use borrow.Author.Needs.{needs}
 use Rattle.client.proofs.copy_kind.Statement.{statement}
 use Rattle.client.proofs.copy_kind.Tie as tie
 
-kind-there : (c : tie.After-kind) → (1 ≤ length (c .before .before .before .before .before .before .args .m .now)) × (c .kind .given .0 .0 ≡ getD (c .before .before .before .before .before .before .args .m .now) 0 0)
+kind-there : (c : tie.After-kind2) → (1 ≤ length (c .before .before .before .before .before .before .args .m .now)) × (c .kind2 .given .0 .0 ≡ getD (c .before .before .before .before .before .before .args .m .now) 0 0)
 kind-there c =
-    octet-there (c .before .before .before .before .before .before .args .m .now) 0 (c .kind .given .0 .0) (sym (c .kind .given .1) ∙ c .before .before .read-u8 .ensures)
+    octet-there (c .before .before .before .before .before .before .args .m .now) 0 (c .kind2 .given .0 .0) (sym (c .kind2 .given .1) ∙ c .before .before .kind .ensures)
 
-read-u8-requires : tie.Need-read-u8-requires
-read-u8-requires c κs = search needs
+kind-requires : tie.Need-kind-requires
+kind-requires c κs = search needs
 
 enum-known-kind : tie.Need-enum-known-kind
 enum-known-kind c = search needs
@@ -32,7 +32,7 @@ returns : tie.Need-returns
 unfolding judgeCopy executeCopy pick
 returns c =
     let m = c .before .before .before .before .before .before .before .args .m .now in
-    let l = octet-missing m 0 (sym (c .before .enum-told .given .1) ∙ c .before .before .before .read-u8 .ensures) in
+    let l = octet-missing m 0 (sym (c .before .enum-told .given .1) ∙ c .before .before .before .kind .ensures) in
     rw (c .refused .ensures, lt-leb 1 (length m) (omega arith))
 
 ignored-requires : tie.Need-ignored-requires
@@ -117,7 +117,7 @@ pub copy-kind-spec : {M : Type 1} → statement M
 copy-kind-spec =
     tie.close
     (tie.spec
-    read-u8-requires
+    kind-requires
     enum-known-kind
     enum-told
     refused-requires

@@ -11,8 +11,8 @@ use borrow.Author.Needs.{needs}
 use Rattle.client.proofs.copy_unsupported.Statement.{statement}
 use Rattle.client.proofs.copy_unsupported.Tie as tie
 
-read-u16-requires : tie.Need-read-u16-requires
-read-u16-requires c κs = search needs
+behind-kind-requires : tie.Need-behind-kind-requires
+behind-kind-requires c κs = search needs
 
 enum-known-revision : tie.Need-enum-known-revision
 enum-known-revision c = search needs
@@ -28,7 +28,7 @@ unfolding executeCopy pick
 returns c =
     λ heads bytes count.
     let m = c .before .before .before .before .before .args .m .now in
-    let l = number-missing m 1 (sym (c .before .enum-told .given .1) ∙ c .before .before .before .read-u16 .ensures) in
+    let l = number-missing m 1 (sym (c .before .enum-told .given .1) ∙ c .before .before .before .behind-kind .ensures) in
     rw (c .refused .ensures, lt-leb 3 (length m) (omega arith))
 
 ignored-requires : tie.Need-ignored-requires
@@ -40,14 +40,14 @@ returns-2 c =
     λ heads bytes count.
     let f = c .before .before in
     let m = f .before .before .before .before .args .m .now in
-    let h = number-there m 1 (f .revision .given .0 .0) (sym (f .revision .given .1) ∙ f .before .before .read-u16 .ensures) in
+    let h = number-there m 1 (f .revision .given .0 .0) (sym (f .revision .given .1) ∙ f .before .before .behind-kind .ensures) in
     rw (c .ignored .ensures, le-leb 3 (length m) (h .0), ← (h .1))
 
 pub copy-unsupported-spec : {M : Type 1} → statement M
 copy-unsupported-spec =
     tie.close
     (tie.spec
-    read-u16-requires
+    behind-kind-requires
     enum-known-revision
     enum-told
     refused-requires

@@ -17,7 +17,7 @@ to-start c = c .before .before .before .before .before .before .before .before .
 
 revision-there : (c : tie.After-revision) → (3 ≤ length (to-start c .args .m .now)) × (c .revision .given .0 .0 ≡ decode16 (drop 1 (to-start c .args .m .now)))
 unfolding to-start
-revision-there c = number-there (to-start c .args .m .now) 1 (c .revision .given .0 .0) (sym (c .revision .given .1) ∙ c .before .before .read-u16 .ensures)
+revision-there c = number-there (to-start c .args .m .now) 1 (c .revision .given .0 .0) (sym (c .revision .given .1) ∙ c .before .before .behind-kind .ensures)
 
 slice-read-if1 : tie.Need-slice-read-if1
 slice-read-if1 c = search needs
@@ -29,8 +29,8 @@ returns : tie.Need-returns
 unfolding judgeHello execute pick
 returns c = rw (c .refused .ensures, ne-eqb _ _ (c .before .if1 .taken))
 
-read-u16-requires : tie.Need-read-u16-requires
-read-u16-requires c κs = search needs
+behind-kind-requires : tie.Need-behind-kind-requires
+behind-kind-requires c κs = search needs
 
 enum-known-revision : tie.Need-enum-known-revision
 enum-known-revision c = search needs
@@ -46,7 +46,7 @@ unfolding judgeHello execute pick
 returns-2 c =
     let r = c .before .before .before in
     let m = r .before .before .before .before .before .before .before .before .args .m .now in
-    let l = number-missing m 1 (sym (c .before .enum-told .given .1) ∙ r .read-u16 .ensures) in
+    let l = number-missing m 1 (sym (c .before .enum-told .given .1) ∙ r .behind-kind .ensures) in
     rw (c .refused2 .ensures, eq-eqb _ _ (r .before .if1 .left), lt-leb 3 (length m) (omega arith))
 
 greet-requires : tie.Need-greet-requires
@@ -92,7 +92,7 @@ receive-hello-spec =
     slice-read-if1
     refused-requires
     returns
-    read-u16-requires
+    behind-kind-requires
     enum-known-revision
     enum-told
     refused-requires-2

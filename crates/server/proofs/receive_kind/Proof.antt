@@ -11,15 +11,15 @@ use borrow.Author.Needs.{needs}
 use Rattle.server.proofs.receive_kind.Statement.{statement}
 use Rattle.server.proofs.receive_kind.Tie as tie
 
-to-start : tie.After-kind → tie.Start
+to-start : tie.After-kind2 → tie.Start
 to-start c = c .before .before .before .before .before .before .before .before
 
-kind-there : (c : tie.After-kind) → (1 ≤ length (to-start c .args .m .now)) × (c .kind .given .0 .0 ≡ getD (to-start c .args .m .now) 0 0)
+kind-there : (c : tie.After-kind2) → (1 ≤ length (to-start c .args .m .now)) × (c .kind2 .given .0 .0 ≡ getD (to-start c .args .m .now) 0 0)
 unfolding to-start
-kind-there c = octet-there (to-start c .args .m .now) 0 (c .kind .given .0 .0) (sym (c .kind .given .1) ∙ c .before .before .read-u8 .ensures)
+kind-there c = octet-there (to-start c .args .m .now) 0 (c .kind2 .given .0 .0) (sym (c .kind2 .given .1) ∙ c .before .before .kind .ensures)
 
-read-u8-requires : tie.Need-read-u8-requires
-read-u8-requires c κs = search needs
+kind-requires : tie.Need-kind-requires
+kind-requires c κs = search needs
 
 enum-known-kind : tie.Need-enum-known-kind
 enum-known-kind c = search needs
@@ -34,7 +34,7 @@ returns : tie.Need-returns
 unfolding judgeMessage execute pick
 returns c =
     let m = c .before .before .before .before .before .before .before .before .before .args .m .now in
-    let l = octet-missing m 0 (sym (c .before .enum-told .given .1) ∙ c .before .before .before .read-u8 .ensures) in
+    let l = octet-missing m 0 (sym (c .before .enum-told .given .1) ∙ c .before .before .before .kind .ensures) in
     rw (c .refused .ensures, lt-leb 1 (length m) (omega arith))
 
 ignored-requires : tie.Need-ignored-requires
@@ -134,7 +134,7 @@ pub receive-kind-spec : {M : Type 1} → statement M
 receive-kind-spec =
     tie.close
     (tie.spec
-    read-u8-requires
+    kind-requires
     enum-known-kind
     enum-told
     refused-requires

@@ -24,7 +24,7 @@ entries s = tabulate (s .args .count) (entryAt (s .args .heads .now) (s .args .b
 
 id-there : (c : tie.After-id) → (3 ≤ length (to-start c .args .m .now)) × (c .id .given .0 .0 ≡ decode16 (drop 1 (to-start c .args .m .now)))
 unfolding to-start
-id-there c = number-there (to-start c .args .m .now) 1 (c .id .given .0 .0) (sym (c .id .given .1) ∙ c .before .before .read-u16 .ensures)
+id-there c = number-there (to-start c .args .m .now) 1 (c .id .given .0 .0) (sym (c .id .given .1) ∙ c .before .before .behind-kind .ensures)
 
 held : (s : tie.Start) (id : ℕ) → id < s .args .count → ltb id (length (entries s)) ≡ true
 held s id h = lt-ltb id (length (entries s)) (omega (arith, length-tabulate (s .args .count) (entryAt (s .args .heads .now) (s .args .bytes .now))))
@@ -36,8 +36,8 @@ type-is : (s : tie.Start) (id : ℕ) → id < s .args .count → getD (s .args .
 unfolding entryAt
 type-is s id h = sym (ap (λ (e : Entry). e .type) (getD-tabulate (s .args .count) (entryAt (s .args .heads .now) (s .args .bytes .now)) id defaultEntry h))
 
-read-u16-requires : tie.Need-read-u16-requires
-read-u16-requires c κs = search needs
+behind-kind-requires : tie.Need-behind-kind-requires
+behind-kind-requires c κs = search needs
 
 enum-known-id : tie.Need-enum-known-id
 enum-known-id c = search needs
@@ -48,7 +48,7 @@ enum-told c = search needs
 returns : tie.Need-returns
 returns c =
     let s = c .before .before .before .before .before .before in
-    sym (update-short (λ id. ltb id (length (entries s))) (λ id. getD (entries s) id defaultEntry .type) (s .args .m .now) (number-missing (s .args .m .now) 1 (sym (c .enum-told .given .1) ∙ c .before .before .read-u16 .ensures)))
+    sym (update-short (λ id. ltb id (length (entries s))) (λ id. getD (entries s) id defaultEntry .type) (s .args .m .now) (number-missing (s .args .m .now) 1 (sym (c .enum-told .given .1) ∙ c .before .before .behind-kind .ensures)))
 
 returns-2 : tie.Need-returns-2
 unfolding to-start
@@ -95,7 +95,7 @@ pub read-held-update-spec : {M : Type 1} → statement M
 read-held-update-spec =
     tie.close
     (tie.spec
-    read-u16-requires
+    behind-kind-requires
     enum-known-id
     enum-told
     returns

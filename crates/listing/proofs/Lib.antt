@@ -1,0 +1,4 @@
+pub mod PutLaws
+pub mod DigitLaws
+pub mod StepLaws
+pub mod MessagesLaws

@@ -1,0 +1,150 @@
+//! Nanoseconds of every call on tables of 1, 16 and 64 entries, library beside reference in one
+//! run and on the same memory.
+//!
+//! Arguments: `--rounds N` (the fastest counts), `--microseconds N` of one round.
+
+#![forbid(unsafe_code)]
+
+mod subject;
+
+use nt2_tests::arguments::Arguments;
+use nt2_tests::implementation::{Implementation, Library, Reference};
+use std::hint::black_box;
+use std::process::ExitCode;
+use std::time::{Duration, Instant};
+use subject::{CALLS, Subject, TABLE_CALLS, VALUES};
+
+const SIZES: [usize; 3] = [1, 16, 64];
+
+#[derive(Clone, Copy)]
+struct Effort {
+    rounds: usize,
+    round: Duration,
+}
+
+/// Nanoseconds of one call: library and reference.
+#[derive(Clone, Copy, Default)]
+struct Times {
+    library: f64,
+    reference: f64,
+}
+
+fn fastest(times: &[f64]) -> f64 {
+    times.iter().copied().fold(f64::INFINITY, f64::min)
+}
+
+fn time(iterations: usize, work: impl FnOnce(usize)) -> f64 {
+    let start = Instant::now();
+    work(iterations);
+    start.elapsed().as_nanos() as f64 / iterations as f64
+}
+
+/// So many iterations that a round takes its time.
+fn calibrate<I: Implementation>(subject: &mut Subject, call: usize, effort: Effort) -> usize {
+    let mut iterations = 1;
+    loop {
+        let start = Instant::now();
+        subject.repeat::<I>(call, iterations);
+        let elapsed = start.elapsed();
+        if elapsed > effort.round / 4 {
+            let scale = effort.round.as_secs_f64() / elapsed.as_secs_f64();
+            return ((iterations as f64 * scale) as usize).max(1);
+        }
+        iterations *= 2;
+    }
+}
+
+fn measure(subject: &mut Subject, call: usize, effort: Effort) -> Times {
+    let library = calibrate::<Library>(subject, call, effort);
+    let reference = calibrate::<Reference>(subject, call, effort);
+    let (mut libraries, mut references) = (Vec::new(), Vec::new());
+    for _ in 0..effort.rounds {
+        libraries.push(time(library, |n| subject.repeat::<Library>(call, n)));
+        references.push(time(reference, |n| subject.repeat::<Reference>(call, n)));
+    }
+    Times { library: fastest(&libraries), reference: fastest(&references) }
+}
+
+/// Nanoseconds of copying the hello's answer once.
+fn measure_copying(bytes: &[u8], effort: Effort) -> f64 {
+    let mut out = bytes.to_vec();
+    let copy = |out: &mut Vec<u8>, n: usize| {
+        for _ in 0..n {
+            black_box(&mut *out).copy_from_slice(black_box(bytes));
+        }
+    };
+    let once = time(1000, |n| copy(&mut out, n)).max(0.1);
+    let iterations = (effort.round.as_nanos() as f64 / once) as usize + 1;
+    let rounds = (0..effort.rounds).map(|_| time(iterations, |n| copy(&mut out, n)));
+    fastest(&rounds.collect::<Vec<f64>>())
+}
+
+fn ratio(times: Times) -> f64 {
+    times.library / times.reference
+}
+
+fn run() -> Result<(), String> {
+    let arguments = Arguments::read(&["rounds", "microseconds"])?;
+    let effort = Effort {
+        rounds: arguments.number("rounds", 25)?,
+        round: Duration::from_micros(arguments.number("microseconds", 500)?),
+    };
+    println!(
+        "ns per call: library, reference, ratio; growth: 64 entries by 16, library (reference)"
+    );
+    let mut hellos = Vec::new();
+    for (place, values) in VALUES.iter().enumerate() {
+        println!("\n{values}\n");
+        println!(
+            "{:<22} {:>26} {:>26} {:>26}  {:>15}",
+            "call", "1 entry", "16 entries", "64 entries", "growth"
+        );
+        for (call, name) in CALLS.iter().enumerate() {
+            let mut all = [Times::default(); SIZES.len()];
+            for (times, entries) in all.iter_mut().zip(SIZES) {
+                let mut subject = Subject::new(place, entries);
+                *times = measure(&mut subject, call, effort);
+                if *name == "receive hello" {
+                    let copied = measure_copying(subject.hello_answer(), effort);
+                    let bytes = subject.hello_answer().len();
+                    hellos.push((*values, entries, bytes, *times, copied));
+                }
+                if call >= TABLE_CALLS {
+                    break;
+                }
+            }
+            print!("{name:<22}");
+            for times in all.iter().filter(|times| times.reference > 0.0) {
+                print!(" {:>9.1} {:>9.1} {:>6.2}", times.library, times.reference, ratio(*times));
+            }
+            if call < TABLE_CALLS {
+                let growth = (all[2].library / all[1].library, all[2].reference / all[1].reference);
+                print!("  {:>6.2} ({:>6.2})", growth.0, growth.1);
+            }
+            println!();
+        }
+    }
+    println!("\nhello answer beside copying its bytes\n");
+    println!(
+        "{:<46} {:>7} {:>6} {:>10} {:>10} {:>9} {:>9}",
+        "values", "entries", "bytes", "library", "reference", "copying", "lib/copy"
+    );
+    for (values, entries, bytes, times, copied) in hellos {
+        let (library, reference) = (times.library, times.reference);
+        println!(
+            "{values:<46} {entries:>7} {bytes:>6} {library:>10.1} {reference:>10.1} {copied:>9.1} {:>9.2}",
+            library / copied
+        );
+    }
+    Ok(())
+}
+
+fn main() -> ExitCode {
+    match run() {
+        Ok(()) => ExitCode::SUCCESS,
+        Err(failure) => {
+            eprintln!("bench: {failure}");
+            ExitCode::FAILURE
+        }
+    }
+}

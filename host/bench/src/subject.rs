@@ -1,0 +1,303 @@
+//! A table with messages for it, on which each call can be repeated.
+
+use nt2_sys::{
+    Answer, CONNECTIONS, Copied, ENTRIES, ENTRY_ROOM, Head, LONGEST_HELLO_ANSWER, LentTable,
+    NAME_ROOM, TABLE_BYTES,
+};
+use nt2_tests::implementation::Implementation;
+use std::hint::black_box;
+
+pub const VALUES: [&str; 3] = [
+    "small: short names, Booleans",
+    "typical: lot/NAME/parents, four lots",
+    "largest: names of 64 bytes, values of 256",
+];
+
+/// The calls; those from `TABLE_CALLS` on have no table.
+pub const CALLS: [&str; 21] = [
+    "fresh",
+    "open",
+    "leave",
+    "receive hello",
+    "receive keep alive",
+    "receive new entry",
+    "receive held entry",
+    "receive new update",
+    "receive old update",
+    "create",
+    "write",
+    "write equal",
+    "read",
+    "copy fresh",
+    "copy keep alive",
+    "copy assignment",
+    "copy update",
+    "encode assignment",
+    "encode update",
+    "decode assignment",
+    "decode update",
+];
+pub const TABLE_CALLS: usize = 17;
+
+/// The connection that calls; all others are greeted.
+const SENDER: usize = 3;
+
+pub struct Subject {
+    heads: Vec<Head>,
+    bytes: Vec<u8>,
+    count: u16,
+    marks: [u8; CONNECTIONS],
+    out: Vec<u8>,
+    type_code: u8,
+    /// Name of the last entry.
+    name: Vec<u8>,
+    /// Two values that differ, and which of them the last entry holds.
+    values: [Vec<u8>; 2],
+    version: usize,
+    assignment: Vec<u8>,
+    copied_assignment: Vec<u8>,
+    update: Vec<u8>,
+    hello_sent: usize,
+}
+
+fn prefixed(text: &[u8]) -> Vec<u8> {
+    [&(text.len() as u16).to_be_bytes(), text].concat()
+}
+
+/// Name and value of an entry, the value in two versions.
+fn entry(values: usize, i: usize, version: usize) -> (Vec<u8>, u8, Vec<u8>) {
+    match values {
+        0 => (format!("e{i}").into_bytes(), 0x00, vec![version as u8]),
+        1 => {
+            let lot = |n: usize| prefixed(format!("2026-{:04}", 100 * i + n).as_bytes());
+            let lots: Vec<u8> = (version..version + 4).flat_map(lot).collect();
+            (format!("lot/2026-{i:04}/parents").into_bytes(), 0x12, [&[4][..], &lots].concat())
+        }
+        _ => {
+            let name = format!("{:n<width$}{i:02}", "plant", width = NAME_ROOM - 2);
+            (name.into_bytes(), 0x02, prefixed(&vec![b'v' + version as u8; 254]))
+        }
+    }
+}
+
+fn assignment(name: &[u8], type_code: u8, id: u16, value: &[u8]) -> Vec<u8> {
+    let fields = [&[type_code][..], &id.to_be_bytes(), &[0, 1], value].concat();
+    [&[0x10][..], &prefixed(name), &fields].concat()
+}
+
+impl Subject {
+    pub fn new(values: usize, entries: usize) -> Self {
+        let mut heads = vec![Head::default(); ENTRIES];
+        let mut bytes = vec![0; TABLE_BYTES];
+        for (i, head) in heads.iter_mut().enumerate().take(entries) {
+            let (name, type_code, value) = entry(values, i, 0);
+            *head = Head {
+                name_length: name.len() as u16,
+                value_length: value.len() as u16,
+                type_code: u16::from(type_code),
+                number: 1,
+            };
+            bytes[ENTRY_ROOM * i..][..name.len()].copy_from_slice(&name);
+            bytes[ENTRY_ROOM * i + NAME_ROOM..][..value.len()].copy_from_slice(&value);
+        }
+        let last = entries - 1;
+        let (name, type_code, value) = entry(values, last, 0);
+        let (_, _, other) = entry(values, last, 1);
+        let id = last as u16;
+        let mut marks = [2; CONNECTIONS];
+        marks[SENDER] = 1;
+        let hello_sent = heads[..entries]
+            .iter()
+            .map(|head| 8 + usize::from(head.name_length) + usize::from(head.value_length))
+            .sum::<usize>()
+            + 1;
+        Subject {
+            heads,
+            bytes,
+            count: entries as u16,
+            marks,
+            out: vec![0; LONGEST_HELLO_ANSWER],
+            type_code,
+            assignment: assignment(&name, type_code, 0xFFFF, &value),
+            copied_assignment: assignment(&name, type_code, id, &value),
+            update: [&[0x11][..], &id.to_be_bytes(), &[0, 1], &value].concat(),
+            name,
+            values: [value, other],
+            version: 0,
+            hello_sent,
+        }
+    }
+
+    /// The bytes of the answer to a hello, once one was made.
+    pub fn hello_answer(&self) -> &[u8] {
+        &self.out[..self.hello_sent]
+    }
+
+    fn table(&mut self) -> LentTable<'_> {
+        LentTable { heads: &mut self.heads, bytes: &mut self.bytes, count: &mut self.count }
+    }
+
+    fn receive<I: Implementation>(&mut self, message: &[u8]) -> Answer {
+        let Subject { heads, bytes, count, marks, out, .. } = self;
+        let table = LentTable { heads, bytes, count };
+        black_box(I::receive(table, marks, black_box(SENDER), black_box(message), out))
+    }
+
+    fn copy_receive<I: Implementation>(&mut self, message: &[u8]) -> Copied {
+        black_box(I::copy_receive(self.table(), black_box(message)))
+    }
+
+    fn write<I: Implementation>(&mut self, id: u16, value: &[u8]) -> Answer {
+        let Subject { heads, bytes, count, marks, out, .. } = self;
+        let table = LentTable { heads, bytes, count };
+        black_box(I::write(table, marks, black_box(id), black_box(value), out))
+    }
+
+    /// Repeats a call, with what it changes set back by a store or two.
+    pub fn repeat<I: Implementation>(&mut self, call: usize, times: usize) {
+        let (count, id) = (self.count, self.count - 1);
+        let last = usize::from(id);
+        match CALLS[call] {
+            "fresh" => {
+                for _ in 0..times {
+                    let Subject { heads, bytes, count, marks, .. } = self;
+                    black_box(I::fresh(LentTable { heads, bytes, count }, marks));
+                }
+                self.count = count;
+                self.marks = [2; CONNECTIONS];
+                self.marks[SENDER] = 1;
+            }
+            "open" | "leave" => self.open_or_leave::<I>(CALLS[call] == "open", times),
+            "receive hello" => {
+                for _ in 0..times {
+                    self.marks[SENDER] = 1;
+                    let answer = self.receive::<I>(&[0x01, 0x02, 0x00]);
+                    assert_eq!((answer.number, answer.sent), (0, self.hello_sent));
+                }
+                self.marks[SENDER] = 1;
+            }
+            "receive keep alive" => {
+                for _ in 0..times {
+                    assert_eq!(self.receive::<I>(&[0x00]).number, 16);
+                }
+            }
+            "receive new entry" | "receive held entry" => {
+                let held = CALLS[call] == "receive held entry";
+                let message = self.assignment.clone();
+                self.marks[SENDER] = 2;
+                for _ in 0..times {
+                    self.count = count - u16::from(!held);
+                    let number = self.receive::<I>(&message).number;
+                    assert_eq!(number, if held { 16 } else { 0 });
+                }
+                self.marks[SENDER] = 1;
+            }
+            "receive new update" | "receive old update" => {
+                let old = u16::from(CALLS[call] == "receive old update");
+                let mut message = self.update.clone();
+                self.marks[SENDER] = 2;
+                for _ in 0..times {
+                    let number = self.heads[last].number.wrapping_add(1 - old);
+                    message[3..5].copy_from_slice(&number.to_be_bytes());
+                    assert_eq!(self.receive::<I>(&message).number, if old == 1 { 16 } else { 0 });
+                }
+                self.marks[SENDER] = 1;
+            }
+            "create" => {
+                let (name, value) = (self.name.clone(), self.values[0].clone());
+                for _ in 0..times {
+                    self.count = count - 1;
+                    let Subject { heads, bytes, count, marks, out, type_code, .. } = self;
+                    let table = LentTable { heads, bytes, count };
+                    let (name, value) = (black_box(&name[..]), black_box(&value[..]));
+                    let answer = black_box(I::create(table, marks, name, *type_code, value, out));
+                    assert_eq!(answer.number, 0);
+                }
+            }
+            "write" => {
+                let values = self.values.clone();
+                for _ in 0..times {
+                    self.version ^= 1;
+                    assert_eq!(self.write::<I>(id, &values[self.version]).number, 0);
+                }
+            }
+            "write equal" => {
+                let value = self.values[self.version].clone();
+                for _ in 0..times {
+                    assert_eq!(self.write::<I>(id, &value).number, 16);
+                }
+            }
+            "read" => {
+                for _ in 0..times {
+                    assert_eq!(black_box(I::read(self.table(), black_box(id))).number, 0);
+                }
+            }
+            "copy fresh" => {
+                for _ in 0..times {
+                    black_box(I::copy_fresh(self.table()));
+                }
+                self.count = count;
+            }
+            "copy keep alive" => {
+                for _ in 0..times {
+                    assert_eq!(self.copy_receive::<I>(&[0x00]).number, 16);
+                }
+            }
+            "copy assignment" => {
+                let message = self.copied_assignment.clone();
+                for _ in 0..times {
+                    self.count = count - 1;
+                    assert_eq!(self.copy_receive::<I>(&message).number, 0);
+                }
+            }
+            "copy update" => {
+                let message = self.update.clone();
+                for _ in 0..times {
+                    assert_eq!(self.copy_receive::<I>(&message).number, 0);
+                }
+            }
+            "encode assignment" | "encode update" => {
+                let kind = if CALLS[call] == "encode update" { 0x11 } else { 0x10 };
+                for _ in 0..times {
+                    let Subject { name, values, out, type_code, .. } = self;
+                    let (name, value) = (black_box(&name[..]), black_box(&values[0][..]));
+                    let answer = black_box(I::encode(
+                        black_box(kind),
+                        0,
+                        name,
+                        *type_code,
+                        1,
+                        1,
+                        value,
+                        out,
+                    ));
+                    assert_eq!(answer.number, 0);
+                }
+            }
+            _ => {
+                let update = CALLS[call] == "decode update";
+                let message = if update { &self.update } else { &self.assignment };
+                for _ in 0..times {
+                    let fields = black_box(I::decode(black_box(message), self.type_code));
+                    assert_eq!(fields.number, 0);
+                }
+            }
+        }
+    }
+
+    fn open_or_leave<I: Implementation>(&mut self, open: bool, times: usize) {
+        for _ in 0..times {
+            self.marks[SENDER] = u8::from(!open);
+            let Subject { heads, bytes, count, marks, .. } = self;
+            let table = LentTable { heads, bytes, count };
+            let connection = black_box(SENDER);
+            let answer = if open {
+                I::open(table, marks, connection)
+            } else {
+                I::leave(table, marks, connection)
+            };
+            assert_eq!(black_box(answer).number, 0);
+        }
+        self.marks[SENDER] = 1;
+    }
+}

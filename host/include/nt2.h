@@ -1,0 +1,181 @@
+/* A shared table server, NetworkTables revision 2.0: the C interface of libnt2.a.
+ *
+ * The caller lends all memory. A slice is lent as pointer and length; the slices of one call do not
+ * overlap, and no pointer is null. A call stays within them, keeps none of them and always returns.
+ * A refusal (1 to 14) changes nothing. A field that an answer does not use is 0 (false).
+ */
+#ifndef NT2_H
+#define NT2_H
+
+#include <stdbool.h>
+#include <stddef.h>
+#include <stdint.h>
+
+#ifdef __cplusplus
+extern "C" {
+#endif
+
+/* Sizes. Entry i's name starts at byte NT2_ENTRY_ROOM * i, its value NT2_NAME_ROOM bytes later. */
+enum {
+    NT2_ENTRIES = 64,
+    NT2_NAME_ROOM = 64,
+    NT2_VALUE_ROOM = 256,
+    NT2_ENTRY_ROOM = 320,
+    NT2_TABLE_BYTES = 20480,
+    NT2_CONNECTIONS = 16,
+    NT2_LONGEST_ASSIGNMENT = 328,
+    NT2_LONGEST_UPDATE = 261,
+    NT2_LONGEST_HELLO_ANSWER = 20993
+};
+
+/* Numbers that a call answers with. */
+enum {
+    NT2_DONE = 0,
+    NT2_INCOMPLETE = 1,         /* message or value not complete */
+    NT2_NO_SUCH_CONNECTION = 2, /* connection number above 15 */
+    NT2_STATE = 3,              /* connection state does not allow this */
+    NT2_KIND = 4,               /* message kind unknown, or not for this end */
+    NT2_ASSIGNMENT_ID = 5,      /* assignment ID not the one allowed */
+    NT2_UNKNOWN_ID = 6,         /* ID not in the table */
+    NT2_TYPE = 7,               /* type unknown */
+    NT2_NOT_BOOLEAN = 8,        /* Boolean byte not 0 or 1 */
+    NT2_NOT_TEXT = 9,           /* text not UTF-8 */
+    NT2_TOO_LONG = 10,          /* name or value too long, or bytes left after a lone value */
+    NT2_FULL = 11,              /* table full */
+    NT2_ROOM = 12,              /* output too short */
+    NT2_NAME_HELD = 13,         /* name already there */
+    NT2_UNSOUND = 14,           /* lent table unsound or too small */
+    NT2_IGNORED = 16            /* taken, nothing changes, nothing is sent */
+};
+
+/* Message kinds. */
+enum {
+    NT2_KEEP_ALIVE = 0x00,
+    NT2_HELLO = 0x01,
+    NT2_UNSUPPORTED = 0x02,
+    NT2_HELLO_COMPLETE = 0x03,
+    NT2_ASSIGNMENT = 0x10,
+    NT2_UPDATE = 0x11
+};
+
+/* Types of values. */
+enum {
+    NT2_BOOLEAN = 0x00,
+    NT2_DOUBLE = 0x01,
+    NT2_STRING = 0x02,
+    NT2_BOOLEAN_ARRAY = 0x10,
+    NT2_DOUBLE_ARRAY = 0x11,
+    NT2_STRING_ARRAY = 0x12
+};
+
+/* Connection marks. */
+enum { NT2_CLOSED = 0, NT2_OPEN = 1, NT2_GREETED = 2 };
+
+/* What a scalar's `found` says. */
+enum { NT2_FOUND_BOOLEAN = 0, NT2_FOUND_DOUBLE = 1, NT2_FOUND_NEITHER = 2 };
+
+/* One entry head. */
+typedef struct {
+    uint16_t name_length;
+    uint16_t value_length;
+    uint16_t type_code;
+    uint16_t number;
+} nt2_head;
+
+/* Number, recipients (bit c for connection c), bytes taken and sent. */
+typedef struct {
+    uint8_t number;
+    uint16_t recipients;
+    size_t taken;
+    size_t sent;
+} nt2_answer;
+
+/* An entry's value as a flag or a number. A NaN is answered as some NaN. */
+typedef struct {
+    uint8_t number;
+    uint8_t found;
+    bool flag;
+    double value;
+} nt2_scalar;
+
+/* The copy's answer. */
+typedef struct {
+    uint8_t number;
+    uint16_t revision;
+    size_t taken;
+} nt2_copied;
+
+/* A message's fields. A name starts at byte 3, a value ends at byte `taken`. */
+typedef struct {
+    uint8_t number;
+    uint8_t kind;
+    uint8_t type_code;
+    uint16_t revision;
+    uint16_t id;
+    uint16_t entry_number;
+    size_t taken;
+    size_t name_length;
+    size_t value_length;
+} nt2_fields;
+
+/* A server's table: 64 heads, 20,480 bytes, a count and 16 connection marks, or more of them. */
+
+/* The count is 0 and all connections are closed. */
+nt2_answer nt2_fresh(nt2_head *heads, size_t heads_length, uint8_t *bytes, size_t bytes_length,
+                     uint16_t *count, uint8_t *marks, size_t marks_length);
+
+/* Opens a closed connection. */
+nt2_answer nt2_open(nt2_head *heads, size_t heads_length, uint8_t *bytes, size_t bytes_length,
+                    uint16_t *count, uint8_t *marks, size_t marks_length, size_t connection);
+
+/* Closes a connection that is open or greeted. */
+nt2_answer nt2_leave(nt2_head *heads, size_t heads_length, uint8_t *bytes, size_t bytes_length,
+                     uint16_t *count, uint8_t *marks, size_t marks_length, size_t connection);
+
+/* Takes the first message of a client's bytes. */
+nt2_answer nt2_receive(nt2_head *heads, size_t heads_length, uint8_t *bytes, size_t bytes_length,
+                       uint16_t *count, uint8_t *marks, size_t marks_length, size_t connection,
+                       const uint8_t *message, size_t message_length, uint8_t *out,
+                       size_t out_length);
+
+/* Creates an entry for the plant's own code. */
+nt2_answer nt2_create(nt2_head *heads, size_t heads_length, uint8_t *bytes, size_t bytes_length,
+                      uint16_t *count, uint8_t *marks, size_t marks_length, const uint8_t *name,
+                      size_t name_length, uint8_t type_code, const uint8_t *value,
+                      size_t value_length, uint8_t *out, size_t out_length);
+
+/* Writes an entry's value for the plant's own code. */
+nt2_answer nt2_write(nt2_head *heads, size_t heads_length, uint8_t *bytes, size_t bytes_length,
+                     uint16_t *count, uint8_t *marks, size_t marks_length, uint16_t id,
+                     const uint8_t *value, size_t value_length, uint8_t *out, size_t out_length);
+
+/* Reads an entry of a server's table or of a copy. Changes nothing. */
+nt2_scalar nt2_read(nt2_head *heads, size_t heads_length, uint8_t *bytes, size_t bytes_length,
+                    uint16_t *count, uint16_t id);
+
+/* Single messages. */
+
+/* Writes a message from its fields; those that its kind lacks are not looked at. */
+nt2_answer nt2_encode(uint8_t kind, uint16_t revision, const uint8_t *name, size_t name_length,
+                      uint8_t type_code, uint16_t id, uint16_t entry_number, const uint8_t *value,
+                      size_t value_length, uint8_t *out, size_t out_length);
+
+/* Reads a message's fields; an update's type is given. */
+nt2_fields nt2_decode(const uint8_t *bytes, size_t bytes_length, uint8_t update_type);
+
+/* A client's copy: 64 heads, 20,480 bytes and a count, or more of them. */
+
+/* The count is 0. */
+nt2_answer nt2_copy_fresh(nt2_head *heads, size_t heads_length, uint8_t *bytes,
+                          size_t bytes_length, uint16_t *count);
+
+/* Takes the first message of a server's bytes. */
+nt2_copied nt2_copy_receive(nt2_head *heads, size_t heads_length, uint8_t *bytes,
+                            size_t bytes_length, uint16_t *count, const uint8_t *message,
+                            size_t message_length);
+
+#ifdef __cplusplus
+}
+#endif
+
+#endif

@@ -1,0 +1,228 @@
+//! The C interface of libnt2.a: its structs, and with the feature `link` its functions.
+//!
+//! A field that an answer does not use is 0 (false).
+
+#![no_std]
+
+/// Entries of a table.
+pub const ENTRIES: usize = 64;
+/// Bytes of the longest name.
+pub const NAME_ROOM: usize = 64;
+/// Bytes of the longest encoded value, prefix or count included.
+pub const VALUE_ROOM: usize = 256;
+/// Bytes from one entry's name to the next one's. The value stands behind the name's room.
+pub const ENTRY_ROOM: usize = NAME_ROOM + VALUE_ROOM;
+/// Bytes of a table.
+pub const TABLE_BYTES: usize = ENTRIES * ENTRY_ROOM;
+/// Connections of a server, 0 to 15.
+pub const CONNECTIONS: usize = 16;
+/// Bytes of the longest assignment.
+pub const LONGEST_ASSIGNMENT: usize = 8 + NAME_ROOM + VALUE_ROOM;
+/// Bytes of the longest update.
+pub const LONGEST_UPDATE: usize = 5 + VALUE_ROOM;
+/// Bytes of the longest answer to a hello.
+pub const LONGEST_HELLO_ANSWER: usize = ENTRIES * LONGEST_ASSIGNMENT + 1;
+
+/// `nt2_head`: one entry head.
+#[repr(C)]
+#[derive(Clone, Copy, Debug, Default, PartialEq, Eq)]
+pub struct Head {
+    pub name_length: u16,
+    pub value_length: u16,
+    pub type_code: u16,
+    pub number: u16,
+}
+
+/// `nt2_answer`: number, recipients, bytes taken and sent.
+#[repr(C)]
+#[derive(Clone, Copy, Debug, Default, PartialEq, Eq)]
+pub struct Answer {
+    pub number: u8,
+    pub recipients: u16,
+    pub taken: usize,
+    pub sent: usize,
+}
+
+/// `nt2_scalar`: `found` is 0 for a Boolean, 1 for a Double, 2 for neither, and 0 with a refusal.
+#[repr(C)]
+#[derive(Clone, Copy, Debug, Default, PartialEq)]
+pub struct Scalar {
+    pub number: u8,
+    pub found: u8,
+    pub flag: bool,
+    pub value: f64,
+}
+
+/// `nt2_copied`: the copy's answer.
+#[repr(C)]
+#[derive(Clone, Copy, Debug, Default, PartialEq, Eq)]
+pub struct Copied {
+    pub number: u8,
+    pub revision: u16,
+    pub taken: usize,
+}
+
+/// `nt2_fields`: a message's fields. A name starts at byte 3, a value ends at byte `taken`.
+#[repr(C)]
+#[derive(Clone, Copy, Debug, Default, PartialEq, Eq)]
+pub struct Fields {
+    pub number: u8,
+    pub kind: u8,
+    pub type_code: u8,
+    pub revision: u16,
+    pub id: u16,
+    pub entry_number: u16,
+    pub taken: usize,
+    pub name_length: usize,
+    pub value_length: usize,
+}
+
+/// A table as it is lent to a call: heads, bytes and count.
+#[derive(Debug)]
+pub struct LentTable<'a> {
+    pub heads: &'a mut [Head],
+    pub bytes: &'a mut [u8],
+    pub count: &'a mut u16,
+}
+
+#[cfg(feature = "link")]
+pub use functions::*;
+
+#[cfg(feature = "link")]
+mod functions {
+    use crate::{Answer, Copied, Fields, Head, Scalar};
+
+    unsafe extern "C" {
+        pub fn nt2_fresh(
+            heads: *mut Head,
+            heads_length: usize,
+            bytes: *mut u8,
+            bytes_length: usize,
+            count: *mut u16,
+            marks: *mut u8,
+            marks_length: usize,
+        ) -> Answer;
+
+        pub fn nt2_open(
+            heads: *mut Head,
+            heads_length: usize,
+            bytes: *mut u8,
+            bytes_length: usize,
+            count: *mut u16,
+            marks: *mut u8,
+            marks_length: usize,
+            connection: usize,
+        ) -> Answer;
+
+        pub fn nt2_leave(
+            heads: *mut Head,
+            heads_length: usize,
+            bytes: *mut u8,
+            bytes_length: usize,
+            count: *mut u16,
+            marks: *mut u8,
+            marks_length: usize,
+            connection: usize,
+        ) -> Answer;
+
+        pub fn nt2_receive(
+            heads: *mut Head,
+            heads_length: usize,
+            bytes: *mut u8,
+            bytes_length: usize,
+            count: *mut u16,
+            marks: *mut u8,
+            marks_length: usize,
+            connection: usize,
+            message: *const u8,
+            message_length: usize,
+            out: *mut u8,
+            out_length: usize,
+        ) -> Answer;
+
+        pub fn nt2_create(
+            heads: *mut Head,
+            heads_length: usize,
+            bytes: *mut u8,
+            bytes_length: usize,
+            count: *mut u16,
+            marks: *mut u8,
+            marks_length: usize,
+            name: *const u8,
+            name_length: usize,
+            type_code: u8,
+            value: *const u8,
+            value_length: usize,
+            out: *mut u8,
+            out_length: usize,
+        ) -> Answer;
+
+        pub fn nt2_write(
+            heads: *mut Head,
+            heads_length: usize,
+            bytes: *mut u8,
+            bytes_length: usize,
+            count: *mut u16,
+            marks: *mut u8,
+            marks_length: usize,
+            id: u16,
+            value: *const u8,
+            value_length: usize,
+            out: *mut u8,
+            out_length: usize,
+        ) -> Answer;
+
+        pub fn nt2_read(
+            heads: *mut Head,
+            heads_length: usize,
+            bytes: *mut u8,
+            bytes_length: usize,
+            count: *mut u16,
+            id: u16,
+        ) -> Scalar;
+
+        pub fn nt2_encode(
+            kind: u8,
+            revision: u16,
+            name: *const u8,
+            name_length: usize,
+            type_code: u8,
+            id: u16,
+            entry_number: u16,
+            value: *const u8,
+            value_length: usize,
+            out: *mut u8,
+            out_length: usize,
+        ) -> Answer;
+
+        pub fn nt2_decode(bytes: *const u8, bytes_length: usize, update_type: u8) -> Fields;
+
+        pub fn nt2_copy_fresh(
+            heads: *mut Head,
+            heads_length: usize,
+            bytes: *mut u8,
+            bytes_length: usize,
+            count: *mut u16,
+        ) -> Answer;
+
+        pub fn nt2_copy_receive(
+            heads: *mut Head,
+            heads_length: usize,
+            bytes: *mut u8,
+            bytes_length: usize,
+            count: *mut u16,
+            message: *const u8,
+            message_length: usize,
+        ) -> Copied;
+    }
+}
+
+/// Sizes that a C compiler gives these structs on x86-64.
+#[cfg(target_pointer_width = "64")]
+const _: () = {
+    assert!(size_of::<Head>() == 8);
+    assert!(size_of::<Answer>() == 24);
+    assert!(size_of::<Scalar>() == 16);
+    assert!(size_of::<Copied>() == 16);
+    assert!(size_of::<Fields>() == 40);
+};

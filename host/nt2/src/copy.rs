@@ -1,0 +1,68 @@
+//! The client's copy.
+
+use crate::answers::{Copied, Refusal, Scalar, is_done};
+use crate::lent;
+use crate::memory::{Entry, Memory};
+
+/// A copy of a server's table, kept from the server's bytes.
+#[derive(Clone)]
+pub struct CopyTable {
+    memory: Memory,
+}
+
+impl CopyTable {
+    /// The empty copy.
+    pub fn new() -> Self {
+        let mut copy = CopyTable { memory: Memory::new() };
+        copy.fresh();
+        copy
+    }
+
+    /// Starts afresh, without entries.
+    pub fn fresh(&mut self) {
+        let answer = lent::copy_fresh(self.memory.lend());
+        assert_eq!(answer.number, 0, "an owned table is large enough");
+    }
+
+    /// Takes the first message of a server's bytes.
+    pub fn receive(&mut self, message: &[u8]) -> Result<Copied, Refusal> {
+        let answer = lent::copy_receive(self.memory.lend(), message);
+        let taken = answer.taken;
+        Ok(if is_done(answer.number)? {
+            Copied::Stored { taken }
+        } else if message.first() == Some(&0x02) {
+            Copied::Unsupported { taken, revision: answer.revision }
+        } else {
+            Copied::Ignored { taken }
+        })
+    }
+
+    /// Takes all messages of a server's bytes.
+    pub fn receive_all(&mut self, mut bytes: &[u8]) -> Result<(), Refusal> {
+        while !bytes.is_empty() {
+            let taken = self.receive(bytes)?.taken();
+            bytes = &bytes[taken..];
+        }
+        Ok(())
+    }
+
+    /// Reads an entry's value, where it is one number or flag.
+    pub fn read(&self, id: u16) -> Result<Scalar, Refusal> {
+        self.memory.read(id)
+    }
+
+    /// Entries held; their IDs are 0 up to this.
+    pub fn count(&self) -> usize {
+        self.memory.count()
+    }
+
+    pub fn entry(&self, id: u16) -> Option<Entry<'_>> {
+        self.memory.entry(id)
+    }
+}
+
+impl Default for CopyTable {
+    fn default() -> Self {
+        CopyTable::new()
+    }
+}

@@ -1,0 +1,40 @@
+//! A shared table server, NetworkTables revision 2.0, over libnt2.a.
+//!
+//! [`ServerTable`] is the server half and [`CopyTable`] the client's copy; both own their memory.
+//! [`encode`] and [`decode`] write and read single messages. Names and values are encoded bytes:
+//! a String's length, an array's count and the elements' lengths are part of a value.
+//!
+//! ```
+//! use nt2::{LONGEST_HELLO_ANSWER, Received, ServerTable, Type};
+//!
+//! let mut out = [0; LONGEST_HELLO_ANSWER];
+//! let mut table = ServerTable::new();
+//! table.create(b"tare", Type::Boolean, &[0], &mut out)?;
+//! table.open(3)?;
+//! match table.receive(3, &[0x01, 0x02, 0x00], &mut out)? {
+//!     Received::Done { taken, sent } => {
+//!         assert_eq!(taken, 3);
+//!         assert_eq!(sent.bytes, b"\x10\x00\x04tare\x00\x00\x00\x00\x01\x00\x03");
+//!         assert!(sent.recipients.iter().eq([3]));
+//!     }
+//!     Received::Ignored { .. } => unreachable!(),
+//! }
+//! # Ok::<(), nt2::Refusal>(())
+//! ```
+
+mod answers;
+mod copy;
+pub mod lent;
+mod memory;
+mod message;
+mod server;
+
+pub use answers::{Copied, Received, Recipients, Refusal, Scalar, Sent, Written};
+pub use copy::CopyTable;
+pub use memory::Entry;
+pub use message::{Message, Type, decode, encode};
+pub use nt2_sys::{
+    CONNECTIONS, ENTRIES, LONGEST_ASSIGNMENT, LONGEST_HELLO_ANSWER, LONGEST_UPDATE, NAME_ROOM,
+    VALUE_ROOM,
+};
+pub use server::{ServerTable, State};

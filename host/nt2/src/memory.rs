@@ -1,0 +1,62 @@
+//! The memory of one table.
+
+use crate::answers::{Refusal, Scalar, is_done};
+use crate::lent;
+use crate::message::Type;
+use nt2_sys::{ENTRIES, ENTRY_ROOM, Head, LentTable, NAME_ROOM, TABLE_BYTES};
+
+#[derive(Clone)]
+pub(crate) struct Memory {
+    heads: Box<[Head]>,
+    bytes: Box<[u8]>,
+    count: u16,
+}
+
+/// An entry of a table.
+#[derive(Clone, Copy, Debug, PartialEq, Eq)]
+pub struct Entry<'a> {
+    pub name: &'a [u8],
+    pub value_type: Type,
+    pub number: u16,
+    pub value: &'a [u8],
+}
+
+impl Memory {
+    pub fn new() -> Self {
+        Memory {
+            heads: vec![Head::default(); ENTRIES].into(),
+            bytes: vec![0; TABLE_BYTES].into(),
+            count: 0,
+        }
+    }
+
+    pub fn lend(&mut self) -> LentTable<'_> {
+        LentTable { heads: &mut self.heads, bytes: &mut self.bytes, count: &mut self.count }
+    }
+
+    pub fn count(&self) -> usize {
+        usize::from(self.count)
+    }
+
+    pub fn read(&self, id: u16) -> Result<Scalar, Refusal> {
+        let scalar = lent::read(&self.heads, &self.bytes, &self.count, id);
+        is_done(scalar.number)?;
+        Ok(match scalar.found {
+            0 => Scalar::Boolean(scalar.flag),
+            1 => Scalar::Double(scalar.value),
+            _ => Scalar::Neither,
+        })
+    }
+
+    pub fn entry(&self, id: u16) -> Option<Entry<'_>> {
+        let place = usize::from(id);
+        let head = self.heads[..self.count()].get(place)?;
+        let bytes = &self.bytes[ENTRY_ROOM * place..];
+        Some(Entry {
+            name: &bytes[..usize::from(head.name_length)],
+            value_type: Type::of(u8::try_from(head.type_code).ok()?)?,
+            number: head.number,
+            value: &bytes[NAME_ROOM..][..usize::from(head.value_length)],
+        })
+    }
+}

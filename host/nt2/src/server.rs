@@ -1,0 +1,127 @@
+//! The server half.
+
+use crate::answers::{Received, Recipients, Refusal, Scalar, Sent, Written, is_done};
+use crate::lent;
+use crate::memory::{Entry, Memory};
+use crate::message::Type;
+use nt2_sys::{Answer, CONNECTIONS};
+
+/// A connection's state.
+#[derive(Clone, Copy, Debug, PartialEq, Eq)]
+pub enum State {
+    Closed,
+    Open,
+    Greeted,
+}
+
+/// A server's table with its connections.
+#[derive(Clone)]
+pub struct ServerTable {
+    memory: Memory,
+    marks: [u8; CONNECTIONS],
+}
+
+impl ServerTable {
+    /// A table after its fresh start: no entries, all connections closed.
+    pub fn new() -> Self {
+        let mut table = ServerTable { memory: Memory::new(), marks: [0; CONNECTIONS] };
+        table.fresh();
+        table
+    }
+
+    /// Starts afresh: no entries, all connections closed.
+    pub fn fresh(&mut self) {
+        let answer = lent::fresh(self.memory.lend(), &mut self.marks);
+        assert_eq!(answer.number, 0, "an owned table is large enough");
+    }
+
+    /// Opens a closed connection.
+    pub fn open(&mut self, connection: usize) -> Result<(), Refusal> {
+        let answer = lent::open(self.memory.lend(), &mut self.marks, connection);
+        is_done(answer.number).map(|_| ())
+    }
+
+    /// Closes a connection that is open or greeted.
+    pub fn leave(&mut self, connection: usize) -> Result<(), Refusal> {
+        let answer = lent::leave(self.memory.lend(), &mut self.marks, connection);
+        is_done(answer.number).map(|_| ())
+    }
+
+    /// Takes the first message of a client's bytes.
+    pub fn receive<'a>(
+        &mut self,
+        connection: usize,
+        message: &[u8],
+        out: &'a mut [u8],
+    ) -> Result<Received<'a>, Refusal> {
+        let answer = lent::receive(self.memory.lend(), &mut self.marks, connection, message, out);
+        let taken = answer.taken;
+        Ok(if is_done(answer.number)? {
+            Received::Done { taken, sent: sent(answer, out) }
+        } else {
+            Received::Ignored { taken }
+        })
+    }
+
+    /// Creates an entry for the plant's own code.
+    pub fn create<'a>(
+        &mut self,
+        name: &[u8],
+        value_type: Type,
+        value: &[u8],
+        out: &'a mut [u8],
+    ) -> Result<Sent<'a>, Refusal> {
+        let table = self.memory.lend();
+        let answer = lent::create(table, &mut self.marks, name, value_type.code(), value, out);
+        is_done(answer.number)?;
+        Ok(sent(answer, out))
+    }
+
+    /// Writes an entry's value for the plant's own code.
+    pub fn write<'a>(
+        &mut self,
+        id: u16,
+        value: &[u8],
+        out: &'a mut [u8],
+    ) -> Result<Written<'a>, Refusal> {
+        let answer = lent::write(self.memory.lend(), &mut self.marks, id, value, out);
+        Ok(if is_done(answer.number)? {
+            Written::Done(sent(answer, out))
+        } else {
+            Written::Ignored
+        })
+    }
+
+    /// Reads an entry's value, where it is one number or flag.
+    pub fn read(&self, id: u16) -> Result<Scalar, Refusal> {
+        self.memory.read(id)
+    }
+
+    /// Entries held; their IDs are 0 up to this.
+    pub fn count(&self) -> usize {
+        self.memory.count()
+    }
+
+    pub fn entry(&self, id: u16) -> Option<Entry<'_>> {
+        self.memory.entry(id)
+    }
+
+    /// The state of a connection, 0 to 15.
+    pub fn state(&self, connection: usize) -> Option<State> {
+        Some(match self.marks.get(connection)? {
+            0 => State::Closed,
+            1 => State::Open,
+            _ => State::Greeted,
+        })
+    }
+}
+
+impl Default for ServerTable {
+    fn default() -> Self {
+        ServerTable::new()
+    }
+}
+
+fn sent(answer: Answer, out: &[u8]) -> Sent<'_> {
+    Sent { bytes: &out[..answer.sent], recipients: Recipients(answer.recipients) }
+}

@@ -1,0 +1,107 @@
+//! The build description's example and a copy, by the owned tables.
+
+use nt2::{
+    Copied, CopyTable, LONGEST_HELLO_ANSWER, Message, Received, Recipients, Refusal, Scalar,
+    ServerTable, State, Type, Written, decode, encode,
+};
+
+const STREAM: [u8; 26] = [
+    0x01, 0x02, 0x00, 0x10, 0x00, 0x01, 0x61, 0x00, 0xFF, 0xFF, 0x00, 0x00, 0x01, 0x11, 0x00, 0x00,
+    0x00, 0x02, 0x00, 0x11, 0x00, 0x00, 0x00, 0x02, 0x01, 0x00,
+];
+
+#[test]
+fn listing_example() {
+    let mut out = vec![0; LONGEST_HELLO_ANSWER];
+    let mut table = ServerTable::new();
+    table.open(0).unwrap();
+    let (mut rest, mut lines) = (&STREAM[..], Vec::new());
+    while !rest.is_empty() {
+        let (taken, line) = match table.receive(0, rest, &mut out).unwrap() {
+            Received::Done { taken, sent } => {
+                (taken, (taken, 0, sent.recipients.0, sent.bytes.len()))
+            }
+            Received::Ignored { taken } => (taken, (taken, 16, 0, 0)),
+        };
+        lines.push(line);
+        rest = &rest[taken..];
+    }
+    assert_eq!(lines, [(3, 0, 1, 1), (10, 0, 1, 10), (6, 0, 0, 6), (6, 16, 0, 0), (1, 16, 0, 0)]);
+    assert_eq!((table.count(), table.state(0)), (1, Some(State::Greeted)));
+}
+
+#[test]
+fn copy_follows_the_server() {
+    let mut out = vec![0; LONGEST_HELLO_ANSWER];
+    let (mut table, mut copy) = (ServerTable::new(), CopyTable::new());
+    table.open(5).unwrap();
+    let Received::Done { sent, .. } = table.receive(5, &[0x01, 0x02, 0x00], &mut out).unwrap()
+    else {
+        panic!("an accepted hello");
+    };
+    copy.receive_all(sent.bytes).unwrap();
+
+    let parents = b"\x02\x00\x05lot/1\x00\x05lot/2";
+    let sent = table.create(b"lot/3/parents", Type::StringArray, parents, &mut out).unwrap();
+    assert_eq!(sent.recipients, Recipients(1 << 5));
+    copy.receive_all(sent.bytes).unwrap();
+    let weight = 12.5f64.to_be_bytes();
+    copy.receive_all(table.create(b"weight", Type::Double, &weight, &mut out).unwrap().bytes)
+        .unwrap();
+    let Written::Done(sent) = table.write(1, &13.0f64.to_be_bytes(), &mut out).unwrap() else {
+        panic!("a new value");
+    };
+    copy.receive_all(sent.bytes).unwrap();
+
+    assert_eq!(table.write(1, &13.0f64.to_be_bytes(), &mut out), Ok(Written::Ignored));
+    assert_eq!((copy.count(), table.count()), (2, 2));
+    for id in 0..2 {
+        assert_eq!(copy.entry(id), table.entry(id));
+    }
+    assert_eq!(copy.read(0), Ok(Scalar::Neither));
+    assert_eq!((copy.read(1), table.read(1)), (Ok(Scalar::Double(13.0)), Ok(Scalar::Double(13.0))));
+    assert_eq!(
+        copy.receive(&[0x02, 0x02, 0x00]),
+        Ok(Copied::Unsupported { taken: 3, revision: 512 })
+    );
+}
+
+#[test]
+fn refusals_by_name() {
+    let mut out = [0; 400];
+    let (mut table, mut copy) = (ServerTable::new(), CopyTable::new());
+    assert_eq!(table.open(16), Err(Refusal::NoSuchConnection));
+    assert_eq!(table.leave(3), Err(Refusal::State));
+    assert_eq!(table.receive(3, &[], &mut out), Err(Refusal::State));
+    assert_eq!(table.read(0), Err(Refusal::UnknownId));
+    assert_eq!(table.create(&[b'n'; 65], Type::Boolean, &[1], &mut out), Err(Refusal::TooLong));
+    assert_eq!(table.create(&[0xC0, 0x80], Type::Boolean, &[1], &mut out), Err(Refusal::Text));
+    assert_eq!(table.create(b"", Type::Boolean, &[2], &mut out), Err(Refusal::Boolean));
+    assert_eq!(table.create(b"", Type::Boolean, &[1], &mut []), Err(Refusal::Room));
+    table.create(b"", Type::Boolean, &[1], &mut out).unwrap();
+    assert_eq!(table.create(b"", Type::Boolean, &[1], &mut out), Err(Refusal::NameHeld));
+    assert_eq!(table.read(0), Ok(Scalar::Boolean(true)));
+    assert_eq!(copy.receive(&[0x01, 0x02, 0x00]), Err(Refusal::Kind));
+    assert_eq!(copy.receive(&[0x11, 0x00, 0x00]), Err(Refusal::UnknownId));
+    table.fresh();
+    assert_eq!(table.count(), 0);
+}
+
+#[test]
+fn messages_there_and_back() {
+    let (mut out, value_type) = ([0xA5; 400], Type::String);
+    let value = b"\x00\x03abc";
+    for message in [
+        Message::KeepAlive,
+        Message::Hello { revision: 0x0200 },
+        Message::Unsupported { revision: 0x0300 },
+        Message::HelloComplete,
+        Message::Assignment { name: b"lot/7", value_type, id: 9, number: 65535, value },
+        Message::Update { value_type, id: 9, number: 0, value },
+    ] {
+        let length = encode(&message, &mut out).unwrap();
+        assert_eq!(decode(&out, value_type), Ok((message, length)));
+        assert_eq!(encode(&message, &mut out[..length - 1]), Err(Refusal::Room));
+        assert_eq!(decode(&out[..length - 1], value_type), Err(Refusal::Incomplete));
+    }
+}

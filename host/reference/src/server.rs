@@ -1,0 +1,274 @@
+//! The server half: connections, clients' messages and local calls.
+
+use crate::table::Table;
+use crate::wire::{
+    ASSIGNMENT, HELLO, HELLO_COMPLETE, Judged, KEEP_ALIVE, NO_ID, REVISION, Reader, Refusal, Type,
+    UNSUPPORTED, UPDATE, check_name, check_value, equal_values, write_revision, write_update,
+};
+use crate::{IGNORED, answer};
+use nt2_sys::{Answer, CONNECTIONS, LentTable};
+
+const CLOSED: u8 = 0;
+const OPEN: u8 = 1;
+const GREETED: u8 = 2;
+
+/// The sequence number of a new entry.
+const START: u16 = 1;
+/// Half the range of sequence numbers.
+const HALF: u16 = 32_768;
+
+/// Whether a received number passes the stored one.
+fn passes(stored: u16, received: u16) -> bool {
+    (1..HALF).contains(&received.wrapping_sub(stored))
+}
+
+struct Server<'a> {
+    table: Table<'a>,
+    marks: &'a mut [u8; CONNECTIONS],
+}
+
+/// A fresh start: the count is 0 and all connections are closed, other memory stays.
+pub fn fresh(table: LentTable<'_>, marks: &mut [u8]) -> Answer {
+    answer(Server::large_enough(table, marks).map(|mut server| {
+        server.table.clear();
+        server.marks.fill(CLOSED);
+        Answer::default()
+    }))
+}
+
+/// Opens a closed connection.
+pub fn open(table: LentTable<'_>, marks: &mut [u8], connection: usize) -> Answer {
+    answer(Server::sound(table, marks).and_then(|server| {
+        let mark = server.marks.get_mut(connection).ok_or(Refusal::NoSuchConnection)?;
+        if *mark != CLOSED {
+            return Err(Refusal::State);
+        }
+        *mark = OPEN;
+        Ok(Answer::default())
+    }))
+}
+
+/// Closes a connection that is open or greeted.
+pub fn leave(table: LentTable<'_>, marks: &mut [u8], connection: usize) -> Answer {
+    answer(Server::sound(table, marks).and_then(|server| {
+        let mark = server.marks.get_mut(connection).ok_or(Refusal::NoSuchConnection)?;
+        if *mark == CLOSED {
+            return Err(Refusal::State);
+        }
+        *mark = CLOSED;
+        Ok(Answer::default())
+    }))
+}
+
+/// Takes one message of a client.
+pub fn receive(
+    table: LentTable<'_>,
+    marks: &mut [u8],
+    connection: usize,
+    message: &[u8],
+    out: &mut [u8],
+) -> Answer {
+    answer(
+        Server::sound(table, marks).and_then(|mut server| server.receive(connection, message, out)),
+    )
+}
+
+/// Creates an entry for the plant's own code.
+pub fn create(
+    table: LentTable<'_>,
+    marks: &mut [u8],
+    name: &[u8],
+    type_code: u8,
+    value: &[u8],
+    out: &mut [u8],
+) -> Answer {
+    answer(Server::sound(table, marks).and_then(|mut server| {
+        check_name(name)?;
+        check_value(Type::of(u16::from(type_code))?, value)?;
+        if server.table.find(name).is_some() {
+            return Err(Refusal::NameHeld);
+        }
+        server.assign(name, type_code, value, out)
+    }))
+}
+
+/// Writes an entry's value for the plant's own code.
+pub fn write(
+    table: LentTable<'_>,
+    marks: &mut [u8],
+    id: u16,
+    value: &[u8],
+    out: &mut [u8],
+) -> Answer {
+    answer(Server::sound(table, marks).and_then(|mut server| {
+        let i = server.table.held(id)?;
+        let kind = server.table.kind(i)?;
+        check_value(kind, value)?;
+        if equal_values(kind, server.table.value(i), value) {
+            return Ok(Answer { number: IGNORED, ..Answer::default() });
+        }
+        let number = server.table.number(i).wrapping_add(1);
+        let sent = server.update(i, number, value, out)?;
+        Ok(Answer { recipients: server.greeted(), sent, ..Answer::default() })
+    }))
+}
+
+impl<'a> Server<'a> {
+    fn large_enough(table: LentTable<'a>, marks: &'a mut [u8]) -> Judged<Self> {
+        let marks = marks.first_chunk_mut().ok_or(Refusal::Unsound)?;
+        Ok(Server { table: Table::large_enough(table)?, marks })
+    }
+
+    fn sound(table: LentTable<'a>, marks: &'a mut [u8]) -> Judged<Self> {
+        let marks: &mut [u8; CONNECTIONS] = marks.first_chunk_mut().ok_or(Refusal::Unsound)?;
+        if marks.iter().any(|&mark| mark > GREETED) {
+            return Err(Refusal::Unsound);
+        }
+        Ok(Server { table: Table::sound(table)?, marks })
+    }
+
+    /// All greeted connections as a set.
+    fn greeted(&self) -> u16 {
+        self.marks
+            .iter()
+            .enumerate()
+            .fold(0, |set, (c, &mark)| set | u16::from(mark == GREETED) << c)
+    }
+
+    fn receive(&mut self, connection: usize, message: &[u8], out: &mut [u8]) -> Judged<Answer> {
+        let mark = *self.marks.get(connection).ok_or(Refusal::NoSuchConnection)?;
+        if mark == CLOSED {
+            return Err(Refusal::State);
+        }
+        let mut reader = Reader::new(message);
+        let kind = reader.u8()?;
+        match (kind, mark) {
+            (KEEP_ALIVE, _) => Ok(Answer { number: IGNORED, taken: 1, ..Answer::default() }),
+            (HELLO, OPEN) => self.hello(connection, reader, out),
+            (ASSIGNMENT, GREETED) => self.assignment(reader, out),
+            (UPDATE, GREETED) => self.client_update(connection, reader, out),
+            (HELLO | ASSIGNMENT | UPDATE, _) => Err(Refusal::State),
+            _ => Err(Refusal::Kind),
+        }
+    }
+
+    fn hello(
+        &mut self,
+        connection: usize,
+        mut reader: Reader<'_>,
+        out: &mut [u8],
+    ) -> Judged<Answer> {
+        let (mark, sent) = if reader.u16()? == REVISION {
+            (GREETED, self.write_entries(out)?)
+        } else if out.len() < 3 {
+            return Err(Refusal::Room);
+        } else {
+            (CLOSED, write_revision(UNSUPPORTED, REVISION, out))
+        };
+        self.marks[connection] = mark;
+        Ok(Answer { number: 0, recipients: 1 << connection, taken: reader.at, sent })
+    }
+
+    /// One assignment for each entry in rising ID, then the hello's end.
+    fn write_entries(&self, out: &mut [u8]) -> Judged<usize> {
+        let table = &self.table;
+        let length: usize = (0..table.count()).map(|i| table.assignment(i).length()).sum();
+        if out.len() < length + 1 {
+            return Err(Refusal::Room);
+        }
+        let mut end = 0;
+        for i in 0..table.count() {
+            end += table.assignment(i).write(&mut out[end..]);
+        }
+        out[end] = HELLO_COMPLETE;
+        Ok(end + 1)
+    }
+
+    fn assignment(&mut self, mut reader: Reader<'_>, out: &mut [u8]) -> Judged<Answer> {
+        let name = reader.name()?;
+        let type_code = reader.u8()?;
+        let kind = Type::of(u16::from(type_code))?;
+        if reader.u16()? != NO_ID {
+            return Err(Refusal::AssignmentId);
+        }
+        reader.u16()?;
+        let value = reader.value(kind)?;
+        let taken = reader.at;
+        if self.table.find(name).is_some() {
+            return Ok(Answer { number: IGNORED, taken, ..Answer::default() });
+        }
+        Ok(Answer { taken, ..self.assign(name, type_code, value, out)? })
+    }
+
+    /// Stores a new entry and writes its assignment for all greeted.
+    fn assign(
+        &mut self,
+        name: &[u8],
+        type_code: u8,
+        value: &[u8],
+        out: &mut [u8],
+    ) -> Judged<Answer> {
+        if self.table.is_full() {
+            return Err(Refusal::Full);
+        }
+        if out.len() < 8 + name.len() + value.len() {
+            return Err(Refusal::Room);
+        }
+        let i = self.table.count();
+        self.table.append(name, type_code, START, value);
+        let sent = self.table.assignment(i).write(out);
+        Ok(Answer { recipients: self.greeted(), sent, ..Answer::default() })
+    }
+
+    fn client_update(
+        &mut self,
+        connection: usize,
+        mut reader: Reader<'_>,
+        out: &mut [u8],
+    ) -> Judged<Answer> {
+        let i = self.table.held(reader.u16()?)?;
+        let number = reader.u16()?;
+        let value = reader.value(self.table.kind(i)?)?;
+        let taken = reader.at;
+        if !passes(self.table.number(i), number) {
+            return Ok(Answer { number: IGNORED, taken, ..Answer::default() });
+        }
+        let sent = self.update(i, number, value, out)?;
+        let recipients = self.greeted() & !(1 << connection);
+        Ok(Answer { number: 0, recipients, taken, sent })
+    }
+
+    /// Stores number and value of entry i and writes the update.
+    fn update(&mut self, i: usize, number: u16, value: &[u8], out: &mut [u8]) -> Judged<usize> {
+        if out.len() < 5 + value.len() {
+            return Err(Refusal::Room);
+        }
+        self.table.store(i, number, value);
+        Ok(write_update(i as u16, number, value, out))
+    }
+}
+
+#[cfg(test)]
+mod tests {
+    use super::passes;
+
+    /// The build description's comparisons P1 to P10: stored, received, applied.
+    #[test]
+    fn comparisons() {
+        let table = [
+            (1, 2, true),
+            (1, 1, false),
+            (5, 4, false),
+            (65_535, 0, true),
+            (0, 65_535, false),
+            (0, 32_767, true),
+            (0, 32_768, false),
+            (32_768, 0, false),
+            (65_535, 32_766, true),
+            (65_535, 32_767, false),
+        ];
+        for (stored, received, applied) in table {
+            assert_eq!(passes(stored, received), applied, "{stored}, {received}");
+        }
+    }
+}

@@ -1,0 +1,275 @@
+//! Fields, values and messages as bytes.
+
+use core::str;
+use nt2_sys::{NAME_ROOM, VALUE_ROOM};
+
+pub const KEEP_ALIVE: u8 = 0x00;
+pub const HELLO: u8 = 0x01;
+pub const UNSUPPORTED: u8 = 0x02;
+pub const HELLO_COMPLETE: u8 = 0x03;
+pub const ASSIGNMENT: u8 = 0x10;
+pub const UPDATE: u8 = 0x11;
+
+/// The revision that the server speaks.
+pub const REVISION: u16 = 0x0200;
+/// The ID in a client's assignment.
+pub const NO_ID: u16 = 0xFFFF;
+
+/// The numbers 1 to 14 of an answer.
+#[derive(Clone, Copy, Debug, PartialEq, Eq)]
+#[repr(u8)]
+pub enum Refusal {
+    Incomplete = 1,
+    NoSuchConnection = 2,
+    State = 3,
+    Kind = 4,
+    AssignmentId = 5,
+    UnknownId = 6,
+    Type = 7,
+    Boolean = 8,
+    Text = 9,
+    TooLong = 10,
+    Full = 11,
+    Room = 12,
+    NameHeld = 13,
+    Unsound = 14,
+}
+
+pub type Judged<T> = Result<T, Refusal>;
+
+#[derive(Clone, Copy, Debug, PartialEq, Eq)]
+pub enum Type {
+    Boolean,
+    Double,
+    String,
+    BooleanArray,
+    DoubleArray,
+    StringArray,
+}
+
+impl Type {
+    pub fn of(code: u16) -> Judged<Type> {
+        match code {
+            0x00 => Ok(Type::Boolean),
+            0x01 => Ok(Type::Double),
+            0x02 => Ok(Type::String),
+            0x10 => Ok(Type::BooleanArray),
+            0x11 => Ok(Type::DoubleArray),
+            0x12 => Ok(Type::StringArray),
+            _ => Err(Refusal::Type),
+        }
+    }
+}
+
+/// A message with the place reached so far.
+pub struct Reader<'a> {
+    bytes: &'a [u8],
+    pub at: usize,
+}
+
+impl<'a> Reader<'a> {
+    pub fn new(bytes: &'a [u8]) -> Self {
+        Reader { bytes, at: 0 }
+    }
+
+    fn take(&mut self, length: usize) -> Judged<&'a [u8]> {
+        let field = self.bytes[self.at..].get(..length).ok_or(Refusal::Incomplete)?;
+        self.at += length;
+        Ok(field)
+    }
+
+    pub fn u8(&mut self) -> Judged<u8> {
+        Ok(self.take(1)?[0])
+    }
+
+    pub fn u16(&mut self) -> Judged<u16> {
+        let field = self.take(2)?;
+        Ok(u16::from_be_bytes([field[0], field[1]]))
+    }
+
+    /// A text behind its prefix, which with `used` bytes before it may reach up to `limit`.
+    fn text(&mut self, used: usize, limit: usize) -> Judged<&'a [u8]> {
+        let length = usize::from(self.u16()?);
+        if used + length > limit {
+            return Err(Refusal::TooLong);
+        }
+        let text = self.take(length)?;
+        check_utf8(text)?;
+        Ok(text)
+    }
+
+    pub fn name(&mut self) -> Judged<&'a [u8]> {
+        self.text(0, NAME_ROOM)
+    }
+
+    /// The encoded value of a type.
+    pub fn value(&mut self, kind: Type) -> Judged<&'a [u8]> {
+        let start = self.at;
+        match kind {
+            Type::Boolean => self.booleans(1)?,
+            Type::Double => {
+                self.take(8)?;
+            }
+            Type::String => {
+                self.text(2, VALUE_ROOM)?;
+            }
+            Type::BooleanArray => {
+                let count = usize::from(self.u8()?);
+                self.booleans(count)?;
+            }
+            Type::DoubleArray => {
+                let count = usize::from(self.u8()?);
+                if 1 + 8 * count > VALUE_ROOM {
+                    return Err(Refusal::TooLong);
+                }
+                self.take(8 * count)?;
+            }
+            Type::StringArray => {
+                for _ in 0..self.u8()? {
+                    self.text(self.at - start + 2, VALUE_ROOM)?;
+                }
+            }
+        }
+        Ok(&self.bytes[start..self.at])
+    }
+
+    /// A bad Boolean byte that is there comes before one that is missing.
+    fn booleans(&mut self, count: usize) -> Judged<()> {
+        let rest = &self.bytes[self.at..];
+        let there = &rest[..count.min(rest.len())];
+        if there.iter().any(|&byte| byte > 1) {
+            return Err(Refusal::Boolean);
+        }
+        self.take(count)?;
+        Ok(())
+    }
+}
+
+fn check_utf8(text: &[u8]) -> Judged<()> {
+    str::from_utf8(text).map(|_| ()).map_err(|_| Refusal::Text)
+}
+
+/// A name lent without its prefix.
+pub fn check_name(name: &[u8]) -> Judged<()> {
+    if name.len() > NAME_ROOM {
+        return Err(Refusal::TooLong);
+    }
+    check_utf8(name)
+}
+
+/// A value that has to fill its bytes.
+pub fn check_value(kind: Type, bytes: &[u8]) -> Judged<()> {
+    let mut reader = Reader::new(bytes);
+    reader.value(kind)?;
+    if reader.at < bytes.len() {
+        return Err(Refusal::TooLong);
+    }
+    Ok(())
+}
+
+/// Whether two values of one type are equal: Doubles as numbers, others by their bytes.
+pub fn equal_values(kind: Type, left: &[u8], right: &[u8]) -> bool {
+    match kind {
+        Type::Double => equal_doubles(left, right),
+        Type::DoubleArray => left.len() == right.len() && equal_doubles(&left[1..], &right[1..]),
+        _ => left == right,
+    }
+}
+
+fn equal_doubles(left: &[u8], right: &[u8]) -> bool {
+    let (left, _) = left.as_chunks::<8>();
+    let (right, _) = right.as_chunks::<8>();
+    left.iter().zip(right).all(|(&l, &r)| f64::from_be_bytes(l) == f64::from_be_bytes(r))
+}
+
+/// An assignment's fields as they are written.
+pub struct Assignment<'a> {
+    pub name: &'a [u8],
+    pub type_code: u8,
+    pub id: u16,
+    pub number: u16,
+    pub value: &'a [u8],
+}
+
+impl Assignment<'_> {
+    pub fn length(&self) -> usize {
+        8 + self.name.len() + self.value.len()
+    }
+
+    /// Writes the message at the start of `out`, which has the room, and answers its length.
+    pub fn write(&self, out: &mut [u8]) -> usize {
+        let out = &mut out[..self.length()];
+        let (front, rest) = out.split_at_mut(3);
+        let (name, rest) = rest.split_at_mut(self.name.len());
+        let (middle, value) = rest.split_at_mut(5);
+        let length = (self.name.len() as u16).to_be_bytes();
+        front.copy_from_slice(&[ASSIGNMENT, length[0], length[1]]);
+        name.copy_from_slice(self.name);
+        let (id, number) = (self.id.to_be_bytes(), self.number.to_be_bytes());
+        middle.copy_from_slice(&[self.type_code, id[0], id[1], number[0], number[1]]);
+        value.copy_from_slice(self.value);
+        self.length()
+    }
+}
+
+/// Writes an update at the start of `out`, which has the room, and answers its length.
+pub fn write_update(id: u16, number: u16, value: &[u8], out: &mut [u8]) -> usize {
+    let length = 5 + value.len();
+    let (front, rest) = out[..length].split_at_mut(5);
+    let (id, number) = (id.to_be_bytes(), number.to_be_bytes());
+    front.copy_from_slice(&[UPDATE, id[0], id[1], number[0], number[1]]);
+    rest.copy_from_slice(value);
+    length
+}
+
+/// Writes a hello or an unsupported at the start of `out`, which has the room.
+pub fn write_revision(kind: u8, revision: u16, out: &mut [u8]) -> usize {
+    let revision = revision.to_be_bytes();
+    out[..3].copy_from_slice(&[kind, revision[0], revision[1]]);
+    3
+}
+
+#[cfg(test)]
+mod tests {
+    extern crate std;
+
+    use super::*;
+    use std::vec;
+
+    #[test]
+    fn both_sides_of_the_limits() {
+        let string =
+            |length: u16| [&length.to_be_bytes()[..], &[b'x'; 300][..length.into()]].concat();
+        let array = |count: u8, bytes: usize| [&[count][..], &[0; 600][..bytes]].concat();
+        let cases = [
+            (Type::String, string(254), Ok(())),
+            (Type::String, string(255), Err(Refusal::TooLong)),
+            (Type::BooleanArray, array(255, 255), Ok(())),
+            (Type::DoubleArray, array(31, 248), Ok(())),
+            (Type::DoubleArray, array(32, 256), Err(Refusal::TooLong)),
+            (Type::StringArray, array(127, 254), Ok(())),
+            (Type::StringArray, array(128, 256), Err(Refusal::TooLong)),
+            (Type::StringArray, array(255, 0), Err(Refusal::Incomplete)),
+            (Type::StringArray, [&[1][..], &string(253)].concat(), Ok(())),
+            (Type::StringArray, [&[1][..], &string(254)].concat(), Err(Refusal::TooLong)),
+            (Type::BooleanArray, vec![3, 0, 2], Err(Refusal::Boolean)),
+            (Type::BooleanArray, vec![3, 0, 1], Err(Refusal::Incomplete)),
+            (Type::Boolean, vec![2, 0], Err(Refusal::Boolean)),
+            (Type::Boolean, vec![1, 0], Err(Refusal::TooLong)),
+        ];
+        for (kind, value, judged) in cases {
+            assert_eq!(check_value(kind, &value), judged, "{kind:?} {value:?}");
+        }
+        assert_eq!(check_name(&[b'n'; 64]), Ok(()));
+        assert_eq!(check_name(&[b'n'; 65]), Err(Refusal::TooLong));
+    }
+
+    #[test]
+    fn utf8() {
+        assert_eq!(check_name(&[0xF4, 0x8F, 0xBF, 0xBF]), Ok(()));
+        assert_eq!(check_name(&[0]), Ok(()));
+        for text in [&[0xC0, 0x80][..], &[0xED, 0xA0, 0x80], &[0xF4, 0x90, 0x80, 0x80]] {
+            assert_eq!(check_name(text), Err(Refusal::Text));
+        }
+    }
+}

@@ -1,0 +1,166 @@
+//! One call with its arguments, and what it answers.
+
+use crate::implementation::Implementation;
+use crate::memory::{Guarded, Memory};
+use nt2_sys::{Answer, Copied, Fields, Scalar};
+use std::fmt;
+
+/// Bytes that are shown as hex.
+#[derive(Clone, PartialEq, Eq)]
+pub struct Hex(pub Vec<u8>);
+
+impl fmt::Debug for Hex {
+    fn fmt(&self, f: &mut fmt::Formatter<'_>) -> fmt::Result {
+        self.0.iter().try_for_each(|byte| write!(f, "{byte:02x}"))
+    }
+}
+
+/// A call on a server's table, on a copy, or on single messages.
+#[derive(Clone, Debug)]
+pub enum Call {
+    Fresh,
+    Open { connection: usize },
+    Leave { connection: usize },
+    Receive { connection: usize, message: Hex },
+    Create { name: Hex, type_code: u8, value: Hex },
+    Write { id: u16, value: Hex },
+    Read { id: u16 },
+    Encode { kind: u8, revision: u16, name: Hex, type_code: u8, id: u16, number: u16, value: Hex },
+    Decode { bytes: Hex, update_type: u8 },
+    CopyFresh,
+    CopyReceive { message: Hex },
+    CopyRead { id: u16 },
+}
+
+#[derive(Clone, Copy, Debug)]
+pub enum Outcome {
+    Answer(Answer),
+    Scalar(Scalar),
+    Fields(Fields),
+    Copied(Copied),
+}
+
+impl Call {
+    pub const NAMES: [&'static str; 12] = [
+        "fresh",
+        "open",
+        "leave",
+        "receive",
+        "create",
+        "write",
+        "read",
+        "encode",
+        "decode",
+        "copy_fresh",
+        "copy_receive",
+        "copy_read",
+    ];
+
+    /// The call's place among the names.
+    pub fn place(&self) -> usize {
+        match self {
+            Call::Fresh => 0,
+            Call::Open { .. } => 1,
+            Call::Leave { .. } => 2,
+            Call::Receive { .. } => 3,
+            Call::Create { .. } => 4,
+            Call::Write { .. } => 5,
+            Call::Read { .. } => 6,
+            Call::Encode { .. } => 7,
+            Call::Decode { .. } => 8,
+            Call::CopyFresh => 9,
+            Call::CopyReceive { .. } => 10,
+            Call::CopyRead { .. } => 11,
+        }
+    }
+
+    /// Makes the call: on a server's memory, a copy's memory and an output.
+    pub fn perform<I: Implementation>(
+        &self,
+        server: &mut Memory,
+        copy: &mut Memory,
+        out: &mut Guarded<u8>,
+    ) -> Outcome {
+        let (table, marks) = server.lend();
+        let out = out.lent_mut();
+        match self {
+            Call::Fresh => Outcome::Answer(I::fresh(table, marks)),
+            Call::Open { connection } => Outcome::Answer(I::open(table, marks, *connection)),
+            Call::Leave { connection } => Outcome::Answer(I::leave(table, marks, *connection)),
+            Call::Receive { connection, message } => {
+                Outcome::Answer(I::receive(table, marks, *connection, &message.0, out))
+            }
+            Call::Create { name, type_code, value } => {
+                Outcome::Answer(I::create(table, marks, &name.0, *type_code, &value.0, out))
+            }
+            Call::Write { id, value } => {
+                Outcome::Answer(I::write(table, marks, *id, &value.0, out))
+            }
+            Call::Read { id } => Outcome::Scalar(I::read(table, *id)),
+            Call::Encode { kind, revision, name, type_code, id, number, value } => Outcome::Answer(
+                I::encode(*kind, *revision, &name.0, *type_code, *id, *number, &value.0, out),
+            ),
+            Call::Decode { bytes, update_type } => {
+                Outcome::Fields(I::decode(&bytes.0, *update_type))
+            }
+            Call::CopyFresh => Outcome::Answer(I::copy_fresh(copy.lend_table())),
+            Call::CopyReceive { message } => {
+                Outcome::Copied(I::copy_receive(copy.lend_table(), &message.0))
+            }
+            Call::CopyRead { id } => Outcome::Scalar(I::read(copy.lend_table(), *id)),
+        }
+    }
+}
+
+impl Outcome {
+    pub fn number(&self) -> u8 {
+        match self {
+            Outcome::Answer(answer) => answer.number,
+            Outcome::Scalar(scalar) => scalar.number,
+            Outcome::Fields(fields) => fields.number,
+            Outcome::Copied(copied) => copied.number,
+        }
+    }
+
+    /// Bytes sent.
+    pub fn sent(&self) -> usize {
+        match self {
+            Outcome::Answer(answer) => answer.sent,
+            _ => 0,
+        }
+    }
+
+    /// Whether a refusal, or a message ignored, says that nothing came of it.
+    pub fn keeps_form(&self) -> bool {
+        let refused = (1..=14).contains(&self.number());
+        let nothing = match *self {
+            Outcome::Answer(a) => a.sent == 0 && a.recipients == 0 && (!refused || a.taken == 0),
+            Outcome::Scalar(s) => {
+                let number = s.number;
+                s == Scalar { number, ..Scalar::default() }
+            }
+            Outcome::Fields(f) => f == Fields { number: f.number, ..Fields::default() },
+            Outcome::Copied(c) => !refused || c == Copied { number: c.number, ..Copied::default() },
+        };
+        let known = refused || matches!(self.number(), 0 | 16);
+        known && (self.number() == 0 || nothing)
+    }
+}
+
+/// A NaN is answered as some NaN; other numbers are the same bit by bit.
+impl PartialEq for Outcome {
+    fn eq(&self, other: &Outcome) -> bool {
+        match (self, other) {
+            (Outcome::Answer(left), Outcome::Answer(right)) => left == right,
+            (Outcome::Fields(left), Outcome::Fields(right)) => left == right,
+            (Outcome::Copied(left), Outcome::Copied(right)) => left == right,
+            (Outcome::Scalar(left), Outcome::Scalar(right)) => {
+                let same_value = left.value.to_bits() == right.value.to_bits()
+                    || left.value.is_nan() && right.value.is_nan();
+                let found = |s: &Scalar| (s.number, s.found, s.flag);
+                found(left) == found(right) && same_value
+            }
+            _ => false,
+        }
+    }
+}

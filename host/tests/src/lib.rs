@@ -1,0 +1,15 @@
+//! Tests of an implementation of the table server: the acceptance cases, a differential test of
+//! two implementations, and demand 3 on random runs.
+
+#![forbid(unsafe_code)]
+
+pub mod acceptance;
+pub mod arguments;
+pub mod call;
+pub mod convergence;
+pub mod differential;
+pub mod generate;
+pub mod implementation;
+pub mod json;
+pub mod memory;
+pub mod random;

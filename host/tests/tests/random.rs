@@ -1,0 +1,186 @@
+//! Short differential and convergence tests with a fixed seed, and wrong implementations that
+//! they have to find. The programs `differential` and `convergence` go further.
+
+use nt2_sys::{Answer, Copied, Fields, LentTable, Scalar};
+use nt2_tests::convergence::run;
+use nt2_tests::differential::{Bounds, compare};
+#[cfg(feature = "library")]
+use nt2_tests::implementation::Library as Tested;
+#[cfg(not(feature = "library"))]
+use nt2_tests::implementation::Reference as Tested;
+use nt2_tests::implementation::{Implementation, Reference};
+use std::time::Duration;
+
+const BOUNDS: Bounds =
+    Bounds { seed: 2013, comparisons: 100_000, time: Duration::from_secs(60), threads: 2 };
+
+#[test]
+fn differential() {
+    let report = compare::<Reference, Tested>(BOUNDS).unwrap();
+    assert_eq!(report.missed(), [""; 0]);
+}
+
+#[test]
+fn convergence() {
+    for seed in 0..6 {
+        assert!(run::<Tested, Tested>(seed, 2000).unwrap().compared.clients > 0);
+    }
+}
+
+/// The reference with one fault.
+struct Faulty<const FAULT: usize>;
+
+const EQUAL_VALUE_WRITTEN: usize = 0;
+const UPDATE_TO_ITS_SENDER: usize = 1;
+const OUTPUT_REST_CHANGED: usize = 2;
+const BYTE_BEYOND_THE_VALUE: usize = 3;
+const LAST_HEAD_NOT_JUDGED: usize = 4;
+const MARK_BEYOND_CLOSED: usize = 5;
+const WRITE_NOT_STORED: usize = 6;
+const COPY_KEEPS_NUMBER: usize = 7;
+
+impl<const FAULT: usize> Implementation for Faulty<FAULT> {
+    const NAME: &'static str = "faulty";
+
+    fn fresh(table: LentTable<'_>, marks: &mut [u8]) -> Answer {
+        let answer = Reference::fresh(table, marks);
+        if FAULT == MARK_BEYOND_CLOSED && answer.number == 0 {
+            marks.fill(0);
+        }
+        answer
+    }
+
+    fn open(table: LentTable<'_>, marks: &mut [u8], connection: usize) -> Answer {
+        if FAULT == LAST_HEAD_NOT_JUDGED && table.heads.len() >= 64 && *table.count == 64 {
+            let mut count = 63;
+            let LentTable { heads, bytes, .. } = table;
+            return Reference::open(
+                LentTable { heads, bytes, count: &mut count },
+                marks,
+                connection,
+            );
+        }
+        Reference::open(table, marks, connection)
+    }
+
+    fn leave(table: LentTable<'_>, marks: &mut [u8], connection: usize) -> Answer {
+        Reference::leave(table, marks, connection)
+    }
+
+    fn receive(
+        table: LentTable<'_>,
+        marks: &mut [u8],
+        connection: usize,
+        message: &[u8],
+        out: &mut [u8],
+    ) -> Answer {
+        let mut answer = Reference::receive(table, marks, connection, message, out);
+        if FAULT == UPDATE_TO_ITS_SENDER && answer.number == 0 && message[0] == 0x11 {
+            answer.recipients |= 1 << connection;
+        }
+        if FAULT == OUTPUT_REST_CHANGED && answer.number == 12 && !out.is_empty() {
+            out[0] = message[0];
+        }
+        answer
+    }
+
+    fn create(
+        table: LentTable<'_>,
+        marks: &mut [u8],
+        name: &[u8],
+        type_code: u8,
+        value: &[u8],
+        out: &mut [u8],
+    ) -> Answer {
+        let LentTable { heads, bytes, count } = table;
+        let answer = Reference::create(
+            LentTable { heads, bytes, count },
+            marks,
+            name,
+            type_code,
+            value,
+            out,
+        );
+        let end = 320 * usize::from(count.saturating_sub(1)) + 64 + value.len();
+        if FAULT == BYTE_BEYOND_THE_VALUE && answer.number == 0 && end < bytes.len() {
+            bytes[end] = 0;
+        }
+        answer
+    }
+
+    fn write(
+        table: LentTable<'_>,
+        marks: &mut [u8],
+        id: u16,
+        value: &[u8],
+        out: &mut [u8],
+    ) -> Answer {
+        let LentTable { heads, bytes, count } = table;
+        let before = (FAULT == WRITE_NOT_STORED).then(|| bytes.to_vec());
+        let mut answer = Reference::write(LentTable { heads, bytes, count }, marks, id, value, out);
+        if let Some(before) = before {
+            bytes.copy_from_slice(&before);
+        }
+        if FAULT == EQUAL_VALUE_WRITTEN && answer.number == 16 {
+            answer.number = 0;
+        }
+        answer
+    }
+
+    fn read(table: LentTable<'_>, id: u16) -> Scalar {
+        Reference::read(table, id)
+    }
+
+    fn encode(
+        kind: u8,
+        revision: u16,
+        name: &[u8],
+        type_code: u8,
+        id: u16,
+        entry_number: u16,
+        value: &[u8],
+        out: &mut [u8],
+    ) -> Answer {
+        Reference::encode(kind, revision, name, type_code, id, entry_number, value, out)
+    }
+
+    fn decode(bytes: &[u8], update_type: u8) -> Fields {
+        Reference::decode(bytes, update_type)
+    }
+
+    fn copy_fresh(table: LentTable<'_>) -> Answer {
+        Reference::copy_fresh(table)
+    }
+
+    fn copy_receive(table: LentTable<'_>, message: &[u8]) -> Copied {
+        let LentTable { heads, bytes, count } = table;
+        let before: Vec<u16> = heads.iter().map(|head| head.number).collect();
+        let copied = Reference::copy_receive(LentTable { heads, bytes, count }, message);
+        if FAULT == COPY_KEEPS_NUMBER && copied.number == 0 && message[0] == 0x11 {
+            heads.iter_mut().zip(before).for_each(|(head, number)| head.number = number);
+        }
+        copied
+    }
+}
+
+fn found<const FAULT: usize>() {
+    assert!(compare::<Reference, Faulty<FAULT>>(BOUNDS).is_err(), "fault {FAULT} was not found");
+}
+
+#[test]
+fn faults_are_found() {
+    found::<EQUAL_VALUE_WRITTEN>();
+    found::<UPDATE_TO_ITS_SENDER>();
+    found::<OUTPUT_REST_CHANGED>();
+    found::<BYTE_BEYOND_THE_VALUE>();
+    found::<LAST_HEAD_NOT_JUDGED>();
+    found::<MARK_BEYOND_CLOSED>();
+    found::<WRITE_NOT_STORED>();
+    found::<COPY_KEEPS_NUMBER>();
+}
+
+#[test]
+fn tables_that_differ_are_found() {
+    assert!((0..6).any(|seed| run::<Faulty<WRITE_NOT_STORED>, Reference>(seed, 2000).is_err()));
+    assert!((0..6).any(|seed| run::<Reference, Faulty<COPY_KEEPS_NUMBER>>(seed, 2000).is_err()));
+}
