@@ -1,11 +1,9 @@
 -- A decoded message is short: a name has up to 64 bytes, a value up to 256.
-use mathlib.Core.Path.{_≡_, refl, sym}
+use mathlib.Core.Path.{_≡_, refl}
 use mathlib.Core.Bool.{Bool, true, false}
-use Prim.Native.Nat.{ℕ, _+_, _≤_}
+use Prim.Native.Nat.{ℕ, _≤_}
 use native.Mathlib.Omega.{arith}
 use mathlib.Core.List.{List}
-use Rattle.field.specs.Choice.{pick}
-use Rattle.field.specs.Field.{whenThere}
 use Rattle.field.proofs.ChoiceLaws.{by-test}
 use Rattle.message.specs.Reader.{parseAssignment, parseUpdate, parseRevision, parseMessage, ofAssignment, ofUpdate, takenOf}
 use Rattle.message.specs.declared.AssignmentRead.{AssignmentRead}
