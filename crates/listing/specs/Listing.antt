@@ -1,9 +1,11 @@
 -- "The listing program": the whole text, over the calls' own steps.
-use Prim.Native.Nat.{ℕ, zero, suc, _+_}
+use Prim.Native.Nat.{ℕ, zero, suc, _+_, _*_}
 use mathlib.Core.List.{List, [], _∷_, _++_}
 use lib.ListN.{length, take, drop, replicate}
 use lib.Dec.{ltb, eqb}
 use Rattle.field.specs.Choice.{pick}
+use Rattle.table.specs.Table.{maxEntries, headSize, entrySize}
+use Rattle.soundness.specs.Sound.{connections}
 use Rattle.server.specs.Judge.{openConnection, clientMessage}
 use Rattle.server.specs.Step.{ServerMemory, CallResult, callStep, freshStart}
 use Rattle.server.specs.Answers.{serverMemory}
@@ -33,7 +35,7 @@ endText taken count =
 
 -- a message of connection 0
 abbrev pub messageStep : ServerMemory → (output message : List ℕ) → CallResult
-messageStep mem output message = callStep 64 mem (record { call = clientMessage 0 message; output = output })
+messageStep mem output message = callStep maxEntries mem (record { call = clientMessage 0 message; output = output })
 
 abbrev pub lineOf : ℕ → CallResult → List ℕ
 lineOf offset r = lineText offset (r .taken) (r .number) (r .recipients) (r .sent)
@@ -53,7 +55,7 @@ messagesText (suc most) offset mem output rest =
 
 -- "on a fresh table with connection 0 open"
 unfoldable pub listingStart : ServerMemory → ServerMemory
-listingStart mem = callStep 64 (freshStart 64 mem .memory) (record { call = openConnection 0; output = [] }) .memory
+listingStart mem = callStep maxEntries (freshStart maxEntries mem .memory) (record { call = openConnection 0; output = [] }) .memory
 
 -- "reads at most 4,096 bytes of standard input as connection 0's stream": a message takes at least one of them
 unfoldable pub streamOf : List ℕ → List ℕ
@@ -65,7 +67,7 @@ listingOn mem output input = headText ++ messagesText (length (streamOf input)) 
 
 -- 64 heads, 20,480 bytes and 16 marks
 unfoldable pub listingMemory : ServerMemory
-listingMemory = serverMemory (replicate 256 0) (replicate 20480 0) 0 (replicate 16 0)
+listingMemory = serverMemory (replicate (headSize * maxEntries) 0) (replicate (entrySize * maxEntries) 0) 0 (replicate connections 0)
 
 -- "Each call is lent 20,993 bytes of output."
 unfoldable pub listingOutput : List ℕ

@@ -167,9 +167,9 @@ fn list_on(
 pub fn write_listing(input: &[u8], text: &mut [u8]) -> usize
     ensures { λ r. ⌜ Put (now (text .entry)) 0 (listingText (now (input .entry))) (now (text .exit)) r ⌝ }
 {
-    let mut heads = [0u16; 256];
-    let mut bytes = [0u8; 20480];
-    let mut marks = [0u8; 16];
+    let mut heads = [0u16; table::HEADS_SIZE];
+    let mut bytes = [0u8; table::BYTES_SIZE];
+    let mut marks = [0u8; soundness::CONNECTIONS];
     let mut out = [0u8; 20993];
     list_on(&mut heads, &mut bytes, &mut marks, &mut out, input, text)
 }

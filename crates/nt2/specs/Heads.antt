@@ -4,6 +4,7 @@ use mathlib.Core.List.{List, [], _∷_}
 use lib.Dec.{ltb}
 use lib.ListN.{getD, set, take}
 use Rattle.field.specs.Choice.{pick}
+use Rattle.table.specs.Table.{maxEntries}
 use Rattle.nt2.specs.declared.Head.{Head}
 
 -- the numbers of each head, one after the other
@@ -13,11 +14,11 @@ numbers (h ∷ hs) = h .«name_length» ∷ h .«value_length» ∷ h .«type_co
 
 -- the numbers of the heads that a table has: "64 entry heads"
 unfoldable pub flatHeads : List Head → List ℕ
-flatHeads hs = numbers (take 64 hs)
+flatHeads hs = numbers (take maxEntries hs)
 
--- the lesser of n and 64
+-- how many of n heads a table has
 unfoldable pub lesser : ℕ → ℕ
-lesser n = pick (ltb n 64) n 64
+lesser n = pick (ltb n maxEntries) n maxEntries
 
 -- what is read where there is no head
 abbrev pub noHead : Head

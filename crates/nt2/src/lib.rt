@@ -11,7 +11,7 @@ ghost use mathlib.Core.List.{[]};
 ghost use lib.ListN.{length, take, drop};
 ghost use Rattle.message.specs.Reader.{parseMessage, takenOf};
 ghost use Rattle.writer.specs.Writer.{check, answerOf, outputOf};
-ghost use Rattle.table.specs.Table.{tableMemory};
+ghost use Rattle.table.specs.Table.{tableMemory, maxEntries, headSize};
 ghost use Rattle.server.specs.Judge.{openConnection, leave, clientMessage, localCreate, localWrite};
 ghost use Rattle.server.specs.Step.{callStep, freshStart, readScalar};
 ghost use Rattle.server.specs.Answers.{serverMemory, resultOf, startOf};
@@ -212,11 +212,15 @@ pub extern "C" fn nt2_decode(bytes: &[u8], update_type: u8) -> Fields
 
 // ---- heads as flat numbers, four each
 
-// The lesser of n and 64.
-fn min64(n: usize) -> usize
+// How many of n heads a table has: at most its entries.
+fn used(n: usize) -> usize
     ensures { λ r. ⌜ r ≡ lesser n ⌝ }
 {
-    if n < 64 { n } else { 64 }
+    if n < table::MAX_ENTRIES {
+        n
+    } else {
+        table::MAX_ENTRIES
+    }
 }
 
 // One head becomes four numbers.
@@ -245,12 +249,12 @@ fn head_at(flat: &[u16], i: usize) -> Head
     }
 }
 
-// The first 64 heads, or all where there are fewer, become numbers; says how many heads.
+// The heads of a table, or all where there are fewer, become numbers; says how many heads.
 fn load(heads: &[Head], flat: &mut [u16]) -> usize
-    requires { ⌜ 256 ≤ length (now flat) ⌝ }
+    requires { ⌜ headSize * maxEntries ≤ length (now flat) ⌝ }
     ensures { λ r. ⌜ (r ≡ lesser (length (now (heads .entry)))) × (now (flat .exit) ≡ loaded (lesser (length (now (heads .entry)))) (now (heads .entry)) (now (flat .entry))) ⌝ }
 {
-    let n = min64(heads.len());
+    let n = used(heads.len());
     let mut i: usize = 0;
     while i < n {
         let h = heads[i];
@@ -260,12 +264,12 @@ fn load(heads: &[Head], flat: &mut [u16]) -> usize
     n
 }
 
-// The numbers become the first 64 heads again, or all where there are fewer.
+// The numbers become the heads of a table again, or all where there are fewer.
 fn store(flat: &[u16], heads: &mut [Head])
-    requires { ⌜ 256 ≤ length (now flat) ⌝ }
+    requires { ⌜ headSize * maxEntries ≤ length (now flat) ⌝ }
     ensures { λ _. ⌜ now (heads .exit) ≡ stored (lesser (length (now (heads .entry)))) (now (flat .entry)) (now (heads .entry)) ⌝ }
 {
-    let n = min64(heads.len());
+    let n = used(heads.len());
     let mut i: usize = 0;
     while i < n {
         heads[i] = head_at(flat, i);
@@ -277,7 +281,7 @@ fn store(flat: &[u16], heads: &mut [Head])
 
 fn fresh_flat(flat: &[u16], n: usize, bytes: &[u8], count: &mut u16, marks: &mut [u8]) -> Answer
     requires { ⌜ n * 4 ≤ length (now flat) ⌝ }
-    ensures { λ r. ⌜ (r ≡ startOf (freshStart 64 (serverMemory (take (n * 4) (now (flat .entry))) (now (bytes .entry)) (now (count .entry)) (now (marks .entry))))) × (serverMemory (take (n * 4) (now (flat .entry))) (now (bytes .entry)) (now (count .exit)) (now (marks .exit)) ≡ freshStart 64 (serverMemory (take (n * 4) (now (flat .entry))) (now (bytes .entry)) (now (count .entry)) (now (marks .entry))) .memory) ⌝ }
+    ensures { λ r. ⌜ (r ≡ startOf (freshStart maxEntries (serverMemory (take (n * 4) (now (flat .entry))) (now (bytes .entry)) (now (count .entry)) (now (marks .entry))))) × (serverMemory (take (n * 4) (now (flat .entry))) (now (bytes .entry)) (now (count .exit)) (now (marks .exit)) ≡ freshStart maxEntries (serverMemory (take (n * 4) (now (flat .entry))) (now (bytes .entry)) (now (count .entry)) (now (marks .entry))) .memory) ⌝ }
 {
     let end = n * 4;
     server::fresh(&flat[0..end], bytes, count, marks)
@@ -292,7 +296,7 @@ fn open_flat(
     connection: usize,
 ) -> Answer
     requires { ⌜ n * 4 ≤ length (now flat) ⌝ }
-    ensures { λ r. ⌜ resultOf r (take (n * 4) (now (flat .entry))) (now (bytes .entry)) (now (count .exit)) (now (marks .exit)) [] ≡ callStep 64 (serverMemory (take (n * 4) (now (flat .entry))) (now (bytes .entry)) (now (count .entry)) (now (marks .entry))) (record { call = openConnection connection; output = [] }) ⌝ }
+    ensures { λ r. ⌜ resultOf r (take (n * 4) (now (flat .entry))) (now (bytes .entry)) (now (count .exit)) (now (marks .exit)) [] ≡ callStep maxEntries (serverMemory (take (n * 4) (now (flat .entry))) (now (bytes .entry)) (now (count .entry)) (now (marks .entry))) (record { call = openConnection connection; output = [] }) ⌝ }
 {
     let end = n * 4;
     server::open(&flat[0..end], bytes, *count, marks, connection)
@@ -307,7 +311,7 @@ fn leave_flat(
     connection: usize,
 ) -> Answer
     requires { ⌜ n * 4 ≤ length (now flat) ⌝ }
-    ensures { λ r. ⌜ resultOf r (take (n * 4) (now (flat .entry))) (now (bytes .entry)) (now (count .exit)) (now (marks .exit)) [] ≡ callStep 64 (serverMemory (take (n * 4) (now (flat .entry))) (now (bytes .entry)) (now (count .entry)) (now (marks .entry))) (record { call = leave connection; output = [] }) ⌝ }
+    ensures { λ r. ⌜ resultOf r (take (n * 4) (now (flat .entry))) (now (bytes .entry)) (now (count .exit)) (now (marks .exit)) [] ≡ callStep maxEntries (serverMemory (take (n * 4) (now (flat .entry))) (now (bytes .entry)) (now (count .entry)) (now (marks .entry))) (record { call = leave connection; output = [] }) ⌝ }
 {
     let end = n * 4;
     server::leave_connection(&flat[0..end], bytes, *count, marks, connection)
@@ -324,7 +328,7 @@ fn receive_flat(
     out: &mut [u8],
 ) -> Answer
     requires { ⌜ n * 4 ≤ length (now flat) ⌝ }
-    ensures { λ r. ⌜ resultOf r (take (n * 4) (now (flat .exit))) (now (bytes .exit)) (now (count .exit)) (now (marks .exit)) (now (out .exit)) ≡ callStep 64 (serverMemory (take (n * 4) (now (flat .entry))) (now (bytes .entry)) (now (count .entry)) (now (marks .entry))) (record { call = clientMessage connection (now (message .entry)); output = now (out .entry) }) ⌝ }
+    ensures { λ r. ⌜ resultOf r (take (n * 4) (now (flat .exit))) (now (bytes .exit)) (now (count .exit)) (now (marks .exit)) (now (out .exit)) ≡ callStep maxEntries (serverMemory (take (n * 4) (now (flat .entry))) (now (bytes .entry)) (now (count .entry)) (now (marks .entry))) (record { call = clientMessage connection (now (message .entry)); output = now (out .entry) }) ⌝ }
 {
     let end = n * 4;
     server::receive(
@@ -350,7 +354,7 @@ fn create_flat(
     out: &mut [u8],
 ) -> Answer
     requires { ⌜ n * 4 ≤ length (now flat) ⌝ }
-    ensures { λ r. ⌜ resultOf r (take (n * 4) (now (flat .exit))) (now (bytes .exit)) (now (count .exit)) (now (marks .entry)) (now (out .exit)) ≡ callStep 64 (serverMemory (take (n * 4) (now (flat .entry))) (now (bytes .entry)) (now (count .entry)) (now (marks .entry))) (record { call = localCreate (now (name .entry)) «type_code» (now (value .entry)); output = now (out .entry) }) ⌝ }
+    ensures { λ r. ⌜ resultOf r (take (n * 4) (now (flat .exit))) (now (bytes .exit)) (now (count .exit)) (now (marks .entry)) (now (out .exit)) ≡ callStep maxEntries (serverMemory (take (n * 4) (now (flat .entry))) (now (bytes .entry)) (now (count .entry)) (now (marks .entry))) (record { call = localCreate (now (name .entry)) «type_code» (now (value .entry)); output = now (out .entry) }) ⌝ }
 {
     let end = n * 4;
     server::create(
@@ -376,7 +380,7 @@ fn write_flat(
     out: &mut [u8],
 ) -> Answer
     requires { ⌜ n * 4 ≤ length (now flat) ⌝ }
-    ensures { λ r. ⌜ resultOf r (take (n * 4) (now (flat .exit))) (now (bytes .exit)) (now (count .exit)) (now (marks .entry)) (now (out .exit)) ≡ callStep 64 (serverMemory (take (n * 4) (now (flat .entry))) (now (bytes .entry)) (now (count .entry)) (now (marks .entry))) (record { call = localWrite id (now (value .entry)); output = now (out .entry) }) ⌝ }
+    ensures { λ r. ⌜ resultOf r (take (n * 4) (now (flat .exit))) (now (bytes .exit)) (now (count .exit)) (now (marks .entry)) (now (out .exit)) ≡ callStep maxEntries (serverMemory (take (n * 4) (now (flat .entry))) (now (bytes .entry)) (now (count .entry)) (now (marks .entry))) (record { call = localWrite id (now (value .entry)); output = now (out .entry) }) ⌝ }
 {
     let end = n * 4;
     server::write(&mut flat[0..end], bytes, *count, marks, id, value, out)
@@ -415,7 +419,7 @@ fn answer_scalar(s: Scalar) -> ScalarAnswer
 
 fn read_flat(flat: &[u16], n: usize, bytes: &[u8], count: &mut u16, id: u16) -> ScalarAnswer
     requires { ⌜ n * 4 ≤ length (now flat) ⌝ }
-    ensures { λ r. ⌜ (r ≡ scalarAnswer (readScalar 64 (tableMemory (take (n * 4) (now (flat .entry))) (now (bytes .entry)) (now (count .entry))) id)) × (now (count .exit) ≡ now (count .entry)) ⌝ }
+    ensures { λ r. ⌜ (r ≡ scalarAnswer (readScalar maxEntries (tableMemory (take (n * 4) (now (flat .entry))) (now (bytes .entry)) (now (count .entry))) id)) × (now (count .exit) ≡ now (count .entry)) ⌝ }
 {
     let end = n * 4;
     let scalar = server::read(&flat[0..end], bytes, *count, id);
@@ -424,7 +428,7 @@ fn read_flat(flat: &[u16], n: usize, bytes: &[u8], count: &mut u16, id: u16) -> 
 
 fn copy_fresh_flat(flat: &[u16], n: usize, bytes: &[u8], count: &mut u16) -> Answer
     requires { ⌜ n * 4 ≤ length (now flat) ⌝ }
-    ensures { λ r. ⌜ (r ≡ copyStartOf (copyFreshStart 64 (tableMemory (take (n * 4) (now (flat .entry))) (now (bytes .entry)) (now (count .entry))))) × (tableMemory (take (n * 4) (now (flat .entry))) (now (bytes .entry)) (now (count .exit)) ≡ copyFreshStart 64 (tableMemory (take (n * 4) (now (flat .entry))) (now (bytes .entry)) (now (count .entry))) .memory) ⌝ }
+    ensures { λ r. ⌜ (r ≡ copyStartOf (copyFreshStart maxEntries (tableMemory (take (n * 4) (now (flat .entry))) (now (bytes .entry)) (now (count .entry))))) × (tableMemory (take (n * 4) (now (flat .entry))) (now (bytes .entry)) (now (count .exit)) ≡ copyFreshStart maxEntries (tableMemory (take (n * 4) (now (flat .entry))) (now (bytes .entry)) (now (count .entry))) .memory) ⌝ }
 {
     let end = n * 4;
     let number = client::copy_fresh(&flat[0..end], bytes, count);
@@ -444,7 +448,7 @@ fn copy_receive_flat(
     message: &[u8],
 ) -> Copied
     requires { ⌜ n * 4 ≤ length (now flat) ⌝ }
-    ensures { λ r. ⌜ copyResultOf r (take (n * 4) (now (flat .exit))) (now (bytes .exit)) (now (count .exit)) ≡ copyMessage 64 (tableMemory (take (n * 4) (now (flat .entry))) (now (bytes .entry)) (now (count .entry))) (now (message .entry)) ⌝ }
+    ensures { λ r. ⌜ copyResultOf r (take (n * 4) (now (flat .exit))) (now (bytes .exit)) (now (count .exit)) ≡ copyMessage maxEntries (tableMemory (take (n * 4) (now (flat .entry))) (now (bytes .entry)) (now (count .entry))) (now (message .entry)) ⌝ }
 {
     let end = n * 4;
     client::copy_receive(&mut flat[0..end], bytes, count, message)
@@ -459,9 +463,9 @@ pub extern "C" fn nt2_fresh(
     count: &mut u16,
     marks: &mut [u8],
 ) -> Answer
-    ensures { λ r. ⌜ (r ≡ startOf (freshStart 64 (serverMemory (flatHeads (now (heads .entry))) (now (bytes .entry)) (now (count .entry)) (now (marks .entry))))) × (serverMemory (flatHeads (now (heads .entry))) (now (bytes .entry)) (now (count .exit)) (now (marks .exit)) ≡ freshStart 64 (serverMemory (flatHeads (now (heads .entry))) (now (bytes .entry)) (now (count .entry)) (now (marks .entry))) .memory) ⌝ }
+    ensures { λ r. ⌜ (r ≡ startOf (freshStart maxEntries (serverMemory (flatHeads (now (heads .entry))) (now (bytes .entry)) (now (count .entry)) (now (marks .entry))))) × (serverMemory (flatHeads (now (heads .entry))) (now (bytes .entry)) (now (count .exit)) (now (marks .exit)) ≡ freshStart maxEntries (serverMemory (flatHeads (now (heads .entry))) (now (bytes .entry)) (now (count .entry)) (now (marks .entry))) .memory) ⌝ }
 {
-    let mut flat = [0u16; 256];
+    let mut flat = [0u16; table::HEADS_SIZE];
     let n = load(heads, &mut flat);
     fresh_flat(&flat, n, bytes, count, marks)
 }
@@ -474,9 +478,9 @@ pub extern "C" fn nt2_open(
     marks: &mut [u8],
     connection: usize,
 ) -> Answer
-    ensures { λ r. ⌜ resultOf r (flatHeads (now (heads .entry))) (now (bytes .entry)) (now (count .exit)) (now (marks .exit)) [] ≡ callStep 64 (serverMemory (flatHeads (now (heads .entry))) (now (bytes .entry)) (now (count .entry)) (now (marks .entry))) (record { call = openConnection connection; output = [] }) ⌝ }
+    ensures { λ r. ⌜ resultOf r (flatHeads (now (heads .entry))) (now (bytes .entry)) (now (count .exit)) (now (marks .exit)) [] ≡ callStep maxEntries (serverMemory (flatHeads (now (heads .entry))) (now (bytes .entry)) (now (count .entry)) (now (marks .entry))) (record { call = openConnection connection; output = [] }) ⌝ }
 {
-    let mut flat = [0u16; 256];
+    let mut flat = [0u16; table::HEADS_SIZE];
     let n = load(heads, &mut flat);
     open_flat(&flat, n, bytes, count, marks, connection)
 }
@@ -489,9 +493,9 @@ pub extern "C" fn nt2_leave(
     marks: &mut [u8],
     connection: usize,
 ) -> Answer
-    ensures { λ r. ⌜ resultOf r (flatHeads (now (heads .entry))) (now (bytes .entry)) (now (count .exit)) (now (marks .exit)) [] ≡ callStep 64 (serverMemory (flatHeads (now (heads .entry))) (now (bytes .entry)) (now (count .entry)) (now (marks .entry))) (record { call = leave connection; output = [] }) ⌝ }
+    ensures { λ r. ⌜ resultOf r (flatHeads (now (heads .entry))) (now (bytes .entry)) (now (count .exit)) (now (marks .exit)) [] ≡ callStep maxEntries (serverMemory (flatHeads (now (heads .entry))) (now (bytes .entry)) (now (count .entry)) (now (marks .entry))) (record { call = leave connection; output = [] }) ⌝ }
 {
-    let mut flat = [0u16; 256];
+    let mut flat = [0u16; table::HEADS_SIZE];
     let n = load(heads, &mut flat);
     leave_flat(&flat, n, bytes, count, marks, connection)
 }
@@ -506,9 +510,9 @@ pub extern "C" fn nt2_receive(
     message: &[u8],
     out: &mut [u8],
 ) -> Answer
-    ensures { λ r. ⌜ (resultOf r (flatHeads (now (heads .exit))) (now (bytes .exit)) (now (count .exit)) (now (marks .exit)) (now (out .exit)) ≡ callStep 64 (serverMemory (flatHeads (now (heads .entry))) (now (bytes .entry)) (now (count .entry)) (now (marks .entry))) (record { call = clientMessage connection (now (message .entry)); output = now (out .entry) })) × (drop 64 (now (heads .exit)) ≡ drop 64 (now (heads .entry))) ⌝ }
+    ensures { λ r. ⌜ (resultOf r (flatHeads (now (heads .exit))) (now (bytes .exit)) (now (count .exit)) (now (marks .exit)) (now (out .exit)) ≡ callStep maxEntries (serverMemory (flatHeads (now (heads .entry))) (now (bytes .entry)) (now (count .entry)) (now (marks .entry))) (record { call = clientMessage connection (now (message .entry)); output = now (out .entry) })) × (drop maxEntries (now (heads .exit)) ≡ drop maxEntries (now (heads .entry))) ⌝ }
 {
-    let mut flat = [0u16; 256];
+    let mut flat = [0u16; table::HEADS_SIZE];
     let n = load(heads, &mut flat);
     let r = receive_flat(&mut flat, n, bytes, count, marks, connection, message, out);
     store(&flat, heads);
@@ -526,9 +530,9 @@ pub extern "C" fn nt2_create(
     value: &[u8],
     out: &mut [u8],
 ) -> Answer
-    ensures { λ r. ⌜ (resultOf r (flatHeads (now (heads .exit))) (now (bytes .exit)) (now (count .exit)) (now (marks .entry)) (now (out .exit)) ≡ callStep 64 (serverMemory (flatHeads (now (heads .entry))) (now (bytes .entry)) (now (count .entry)) (now (marks .entry))) (record { call = localCreate (now (name .entry)) «type_code» (now (value .entry)); output = now (out .entry) })) × (drop 64 (now (heads .exit)) ≡ drop 64 (now (heads .entry))) ⌝ }
+    ensures { λ r. ⌜ (resultOf r (flatHeads (now (heads .exit))) (now (bytes .exit)) (now (count .exit)) (now (marks .entry)) (now (out .exit)) ≡ callStep maxEntries (serverMemory (flatHeads (now (heads .entry))) (now (bytes .entry)) (now (count .entry)) (now (marks .entry))) (record { call = localCreate (now (name .entry)) «type_code» (now (value .entry)); output = now (out .entry) })) × (drop maxEntries (now (heads .exit)) ≡ drop maxEntries (now (heads .entry))) ⌝ }
 {
-    let mut flat = [0u16; 256];
+    let mut flat = [0u16; table::HEADS_SIZE];
     let n = load(heads, &mut flat);
     let r = create_flat(
         &mut flat,
@@ -555,9 +559,9 @@ pub extern "C" fn nt2_write(
     value: &[u8],
     out: &mut [u8],
 ) -> Answer
-    ensures { λ r. ⌜ (resultOf r (flatHeads (now (heads .exit))) (now (bytes .exit)) (now (count .exit)) (now (marks .entry)) (now (out .exit)) ≡ callStep 64 (serverMemory (flatHeads (now (heads .entry))) (now (bytes .entry)) (now (count .entry)) (now (marks .entry))) (record { call = localWrite id (now (value .entry)); output = now (out .entry) })) × (drop 64 (now (heads .exit)) ≡ drop 64 (now (heads .entry))) ⌝ }
+    ensures { λ r. ⌜ (resultOf r (flatHeads (now (heads .exit))) (now (bytes .exit)) (now (count .exit)) (now (marks .entry)) (now (out .exit)) ≡ callStep maxEntries (serverMemory (flatHeads (now (heads .entry))) (now (bytes .entry)) (now (count .entry)) (now (marks .entry))) (record { call = localWrite id (now (value .entry)); output = now (out .entry) })) × (drop maxEntries (now (heads .exit)) ≡ drop maxEntries (now (heads .entry))) ⌝ }
 {
-    let mut flat = [0u16; 256];
+    let mut flat = [0u16; table::HEADS_SIZE];
     let n = load(heads, &mut flat);
     let r = write_flat(&mut flat, n, bytes, count, marks, id, value, out);
     store(&flat, heads);
@@ -566,18 +570,18 @@ pub extern "C" fn nt2_write(
 
 #[no_mangle]
 pub extern "C" fn nt2_read(heads: &[Head], bytes: &[u8], count: &mut u16, id: u16) -> ScalarAnswer
-    ensures { λ r. ⌜ (r ≡ scalarAnswer (readScalar 64 (tableMemory (flatHeads (now (heads .entry))) (now (bytes .entry)) (now (count .entry))) id)) × (now (count .exit) ≡ now (count .entry)) ⌝ }
+    ensures { λ r. ⌜ (r ≡ scalarAnswer (readScalar maxEntries (tableMemory (flatHeads (now (heads .entry))) (now (bytes .entry)) (now (count .entry))) id)) × (now (count .exit) ≡ now (count .entry)) ⌝ }
 {
-    let mut flat = [0u16; 256];
+    let mut flat = [0u16; table::HEADS_SIZE];
     let n = load(heads, &mut flat);
     read_flat(&flat, n, bytes, count, id)
 }
 
 #[no_mangle]
 pub extern "C" fn nt2_copy_fresh(heads: &[Head], bytes: &[u8], count: &mut u16) -> Answer
-    ensures { λ r. ⌜ (r ≡ copyStartOf (copyFreshStart 64 (tableMemory (flatHeads (now (heads .entry))) (now (bytes .entry)) (now (count .entry))))) × (tableMemory (flatHeads (now (heads .entry))) (now (bytes .entry)) (now (count .exit)) ≡ copyFreshStart 64 (tableMemory (flatHeads (now (heads .entry))) (now (bytes .entry)) (now (count .entry))) .memory) ⌝ }
+    ensures { λ r. ⌜ (r ≡ copyStartOf (copyFreshStart maxEntries (tableMemory (flatHeads (now (heads .entry))) (now (bytes .entry)) (now (count .entry))))) × (tableMemory (flatHeads (now (heads .entry))) (now (bytes .entry)) (now (count .exit)) ≡ copyFreshStart maxEntries (tableMemory (flatHeads (now (heads .entry))) (now (bytes .entry)) (now (count .entry))) .memory) ⌝ }
 {
-    let mut flat = [0u16; 256];
+    let mut flat = [0u16; table::HEADS_SIZE];
     let n = load(heads, &mut flat);
     copy_fresh_flat(&flat, n, bytes, count)
 }
@@ -589,9 +593,9 @@ pub extern "C" fn nt2_copy_receive(
     count: &mut u16,
     message: &[u8],
 ) -> Copied
-    ensures { λ r. ⌜ (copyResultOf r (flatHeads (now (heads .exit))) (now (bytes .exit)) (now (count .exit)) ≡ copyMessage 64 (tableMemory (flatHeads (now (heads .entry))) (now (bytes .entry)) (now (count .entry))) (now (message .entry))) × (drop 64 (now (heads .exit)) ≡ drop 64 (now (heads .entry))) ⌝ }
+    ensures { λ r. ⌜ (copyResultOf r (flatHeads (now (heads .exit))) (now (bytes .exit)) (now (count .exit)) ≡ copyMessage maxEntries (tableMemory (flatHeads (now (heads .entry))) (now (bytes .entry)) (now (count .entry))) (now (message .entry))) × (drop maxEntries (now (heads .exit)) ≡ drop maxEntries (now (heads .entry))) ⌝ }
 {
-    let mut flat = [0u16; 256];
+    let mut flat = [0u16; table::HEADS_SIZE];
     let n = load(heads, &mut flat);
     let r = copy_receive_flat(&mut flat, n, bytes, count, message);
     store(&flat, heads);

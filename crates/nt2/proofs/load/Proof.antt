@@ -1,5 +1,5 @@
 -- `nt2::load` meets its contract: a walk of its MIR, by hand, with a loop. A turn looks into `heads`, copies the record at i, and lends `flat` again to `put_head`.
--- All that it knows of `min64` and `put_head` is that each meets its contract.
+-- All that it knows of `used` and `put_head` is that each meets its contract.
 -- Assumes nothing.
 use mathlib.Core.Path.{_≡_, refl, sym, _∙_, ap, subst}
 use Prim.Native.Nat.{ℕ, _<_, _≤_, _^_, _*_, _+_, _-_, zero-le}
@@ -53,10 +53,10 @@ use Rattle.nt2.proofs.Head as T
 use Rattle.nt2.proofs.Head.Laws as T′
 use Rattle.nt2.proofs.Again.{LentAgain, lends, returns as comes}
 use Rattle.nt2.proofs.Walk.{after, offset-fits, place-within, next-fits, next-le, next-less, small, within-trans}
-use Rattle.nt2.proofs.min64 as min64
-use Rattle.nt2.proofs.min64.Symbol as min64-def
-use Rattle.nt2.proofs.min64.Symbol.{name as #nt2·min64}
-use Rattle.nt2.proofs.min64.Met as min64-thm
+use Rattle.nt2.proofs.used as used
+use Rattle.nt2.proofs.used.Symbol as used-def
+use Rattle.nt2.proofs.used.Symbol.{name as #nt2·used}
+use Rattle.nt2.proofs.used.Met as used-thm
 use Rattle.nt2.proofs.put_head as put-head
 use Rattle.nt2.proofs.put_head.Symbol as put-head-def
 use Rattle.nt2.proofs.put_head.Symbol.{name as #nt2·put-head}
@@ -73,13 +73,13 @@ stayed = (stay-none-slice (0 ∷ []) tt (plain (λ _. T.the-row)) yes, (stay-sli
 -- the contracts that the proof cites
 module _ {M : Type 1} (𝓤 : URA M) (H : Heap 𝓤) (A : Atoms 𝓤) (mem : Memory → SProp 𝓤) (run : Routine → Fun 𝓤) where
   abbrev Min : Contract 𝓤
-  Min = tripleOf 𝓤 H A min64.signature (min64.spec 𝓤 H A mem run)
+  Min = tripleOf 𝓤 H A used.signature (used.spec 𝓤 H A mem run)
 
   abbrev Put : Contract 𝓤
   Put = tripleOf 𝓤 H A put-head.signature (put-head.spec 𝓤 H A mem run)
 
-  min-of : (n r : ℕ) → ent 𝓤 (ensured 𝓤 H A min64.ended (min64.clauses 𝓤 H A mem run) tt (n, tt) tt r) (fact 𝓤 (r ≡ lesser n))
-  min-of n r = exE 𝓤 _ (λ ws. snd∗ 𝓤 (sem 𝓤 H A (lasts min64.ended tt (n, tt) ws)) (fact 𝓤 (r ≡ lesser n)))
+  min-of : (n r : ℕ) → ent 𝓤 (ensured 𝓤 H A used.ended (used.clauses 𝓤 H A mem run) tt (n, tt) tt r) (fact 𝓤 (r ≡ lesser n))
+  min-of n r = exE 𝓤 _ (λ ws. snd∗ 𝓤 (sem 𝓤 H A (lasts used.ended tt (n, tt) ws)) (fact 𝓤 (r ≡ lesser n)))
 
 module _ {M : Type 1} (𝓤 : URA M) (H : Heap 𝓤) (A : Atoms 𝓤) (W : Given 𝓤 H A) (mem : Memory → SProp 𝓤) (run : Routine → Fun 𝓤) (κ κ′ : Lft) (q q′ : Share) (b o : ℕ) (γ : GName) (hs : List Head) (b′ o′ : ℕ) (γ′ : GName) (ys : List ℕ)
     (room : Room T.the-row (length hs)) (room′ : Room u16 (length ys)) (wide : 256 ≤ length ys) where
@@ -121,7 +121,7 @@ module _ {M : Type 1} (𝓤 : URA M) (H : Heap 𝓤) (A : Atoms 𝓤) (W : Given
   len : (k : ℕ) → length (loaded k hs ys) ≡ length ys
   len k = length-loaded k hs ys
 
-  -- n is what `min64` returned
+  -- n is what `used` returned
   module _ (n : ℕ) (n-is : n ≡ lesser (length hs)) where
     n-small : n ≤ 64
     n-small = subst (λ (k : ℕ). k ≤ 64) (sym n-is) (lesser-small (length hs))
@@ -259,7 +259,7 @@ module _ {M : Type 1} (𝓤 : URA M) (H : Heap 𝓤) (A : Atoms 𝓤) (W : Given
   goes-min : ent 𝓤 (emp 𝓤) (Min 𝓤 H A mem run .pre to-min)
   goes-min = qed W [] ∵ owned ! usize (Is usize) (uint-makes 𝓤 H A W w64) (length hs) _ (refl, room .0) $ nothing ! $ move ! (1 ∷ 0 ∷ []) $ join ! $ nothing ! $ join ! $ frame ! $ done !
 
-  walk : (𝓣 : Tables 𝓤 H) → Triple 𝓤 (𝓣 .C #nt2·min64) (Min 𝓤 H A mem run) → Triple 𝓤 (𝓣 .C #nt2·put-head) (Put 𝓤 H A mem run)
+  walk : (𝓣 : Tables 𝓤 H) → Triple 𝓤 (𝓣 .C #nt2·used) (Min 𝓤 H A mem run) → Triple 𝓤 (𝓣 .C #nt2·put-head) (Put 𝓤 H A mem run)
       → ent 𝓤 (onEntry 𝓤 H A load′.signature (κ, (κ′, tt)) (q, (q′, tt)) a vals) (WpFn 𝓤 H (𝓣 .C) (𝓣 .Λ) code.function (s ∷ t ∷ []) Post)
   walk 𝓣 known-min known-put =
       qed W ((‵ (flft κ q) ⊛ ‵ (flft κ′ q′) ⊛ ‵ ftrue) ∷ ‵ (owns (ShrSlice (named 0) κ R ∷ MutSlice (named 1) κ′ u16 ∷ []) a vals) ∷ []) ∵ enter ! (𝓣 .C) (𝓣 .Λ) code.function (s ∷ t ∷ []) _ $
@@ -268,7 +268,7 @@ module _ {M : Type 1} (𝓤 : URA M) (H : Heap 𝓤) (A : Atoms 𝓤) (W : Given
       assigns ! (of-opd ! (load ! (from ! (fld ! refl (stop !))) (look-in ! 24 (sub ! 1 refl (whole !))))) (from ! (stop !)) (init ! 14 refl (tt, record { fits = room .0 })) $
       use0 W (raw (Min 𝓤 H A mem run .pre to-min)) goes-min $
       calls-at ! (fmOf 𝓤 H (W .laws) 𝓣) (Min 𝓤 H A mem run) known-min to-min (and-then ! (load ! (from ! (stop !)) (look ! 15 refl)) (no-more !)) (λ w.
-      use1 W (later (some (λ (r : ℕ). (‵ ftrue ⊛ ‵ (usize .own r (w ∷ []))) ⊛ raw (ensured 𝓤 H A min64.ended (min64.clauses 𝓤 H A mem run) tt (length hs, tt) tt r)))) (id⊢ 𝓤 _) $ await ! tt $ pick ! (λ r.
+      use1 W (later (some (λ (r : ℕ). (‵ ftrue ⊛ ‵ (usize .own r (w ∷ []))) ⊛ raw (ensured 𝓤 H A used.ended (used.clauses 𝓤 H A mem run) tt (length hs, tt) tt r)))) (id⊢ 𝓤 _) $ await ! tt $ pick ! (λ r.
       split ! $ move ! (1 ∷ []) $ use1 W (raw (fact 𝓤 (r ≡ lesser (length hs)))) (min-of 𝓤 H A mem run (length hs) r) $ heard ! (r ≡ lesser (length hs)) (λ e. split ! $ drop ! $
       peeks ! usize (Is usize) (shows 𝓤 H A usize) r (w ∷ []) (λ is.
       land ! (from ! (stop !)) (init ! 21 refl (uint-lawful 𝓤 H A W w64 .typed r _ is .0)) $ rewrite ! 21 (λ (u : Val). ‵ (fat fullShare (tyInt w64) l₃ 0 u)) (ap only (is .0)) refl $ drop ! $
@@ -278,12 +278,12 @@ module _ {M : Type 1} (𝓤 : URA M) (H : Heap 𝓤) (A : Atoms 𝓤) (W : Given
       first ! $ blocks ! $ loops ! 𝓣 (Nearer r e) (Nearer-wf r e) (At r e 𝓣 known-put l₀ l₁ l₂ l₃ l₄ l₅ l₆ l₇ l₈ l₉ l₁₀ l₁₁ l₁₂ l₁₃) (turns r e 𝓣 known-put l₀ l₁ l₂ l₃ l₄ l₅ l₆ l₇ l₈ l₉ l₁₀ l₁₁ l₁₂ l₁₃) (0, zero-le)))))))))))))))))))
 
 module _ {M : Type 1} (𝓤 : URA M) (H : Heap 𝓤) (A : Atoms 𝓤) (W : Given 𝓤 H A) (mem : Memory → SProp 𝓤) (run : Routine → Fun 𝓤) where
-  load-walks : (𝓣 : Tables 𝓤 H) → Triple 𝓤 (𝓣 .C #nt2·min64) (Min 𝓤 H A mem run) → Triple 𝓤 (𝓣 .C #nt2·put-head) (Put 𝓤 H A mem run) → Walks 𝓤 H A load′.ended stayed (WpFn 𝓤 H (𝓣 .C) (𝓣 .Λ) code.function) (load′.clauses 𝓤 H A mem run)
+  load-walks : (𝓣 : Tables 𝓤 H) → Triple 𝓤 (𝓣 .C #nt2·used) (Min 𝓤 H A mem run) → Triple 𝓤 (𝓣 .C #nt2·put-head) (Put 𝓤 H A mem run) → Walks 𝓤 H A load′.ended stayed (WpFn 𝓤 H (𝓣 .C) (𝓣 .Λ) code.function) (load′.clauses 𝓤 H A mem run)
   load-walks 𝓣 known-min known-put = walked 𝓤 H A load′.ended stayed (load′.clauses 𝓤 H A mem run) (WpFn 𝓤 H (𝓣 .C) (𝓣 .Λ) code.function) (λ κs. (slice-vals, (slice-vals, tt))) (λ κs. (shr-slice-tells (named 0) (κs .0) T.the-row, (mut-slice-tells (named 1) (κs .1 .0) u16, tt)))
       (λ κs qs bounds a g are. needs 𝓤 (256 ≤ length (a .1 .0 .now)) _ (λ wide.
       walk 𝓤 H A W mem run (κs .0) (κs .1 .0) (qs .0) (qs .1 .0) (a .0 .ptr .0) (a .0 .ptr .1) (a .0 .name) (a .0 .now) (a .1 .0 .ptr .0) (a .1 .0 .ptr .1) (a .1 .0 .name) (a .1 .0 .now) (are .0 .0 .1) (are .1 .0 .0 .1) wide 𝓣 known-min known-put))
 
-load-meets : {M : Type 1} (𝓤 : URA M) (H : Heap 𝓤) (A : Atoms 𝓤) → Given 𝓤 H A → (mem : Memory → SProp 𝓤) (run : Routine → Fun 𝓤) (𝓣 : Tables 𝓤 H) → Triple 𝓤 (𝓣 .C #nt2·min64) (Min 𝓤 H A mem run) → Triple 𝓤 (𝓣 .C #nt2·put-head) (Put 𝓤 H A mem run)
+load-meets : {M : Type 1} (𝓤 : URA M) (H : Heap 𝓤) (A : Atoms 𝓤) → Given 𝓤 H A → (mem : Memory → SProp 𝓤) (run : Routine → Fun 𝓤) (𝓣 : Tables 𝓤 H) → Triple 𝓤 (𝓣 .C #nt2·used) (Min 𝓤 H A mem run) → Triple 𝓤 (𝓣 .C #nt2·put-head) (Put 𝓤 H A mem run)
     → Meets 𝓤 H A load′.signature (WpFn 𝓤 H (𝓣 .C) (𝓣 .Λ) code.function) (load′.spec 𝓤 H A mem run)
 load-meets 𝓤 H A W mem run 𝓣 known-min known-put =
     walk-meets 𝓤 H A load′.ended stayed W (goes-none-slice 𝓤 H A W 2 (0 ∷ []) tt (plain (λ _. T.the-row)) yes, (goes-slice 𝓤 H A W 2 1 tt (plain (λ _. u16)), tt)) (load′.clauses 𝓤 H A mem run)
@@ -295,5 +295,5 @@ load-spec 𝓤 H 𝓜 𝓖 𝓡 =
     entered 𝓤 H (tripleOf 𝓤 H (𝓖 .A) load′.signature (load′.spec 𝓤 H (𝓖 .A) (𝓜 .mem) (𝓡 .run)))
     (tables 𝓤 H 𝓜 𝓡 code.env .C) (tables 𝓤 H 𝓜 𝓡 code.env .Λ) #nt2·load code.function (code.unfolded 𝓤 H 𝓜 𝓡)
     (load-meets 𝓤 H (𝓖 .A) (givenOf 𝓤 H 𝓜 𝓖) (𝓜 .mem) (𝓡 .run) (tablesOf 𝓤 H 𝓜 (tables 𝓤 H 𝓜 𝓡 code.env))
-    (cited 𝓤 H (Min 𝓤 H (𝓖 .A) (𝓜 .mem) (𝓡 .run)) 𝓜 𝓡 code.env #nt2·min64 min64-def.routine code.calls-nt2·min64 (min64-thm.met 𝓤 H 𝓜 𝓖 𝓡))
+    (cited 𝓤 H (Min 𝓤 H (𝓖 .A) (𝓜 .mem) (𝓡 .run)) 𝓜 𝓡 code.env #nt2·used used-def.routine code.calls-nt2·used (used-thm.met 𝓤 H 𝓜 𝓖 𝓡))
     (cited 𝓤 H (Put 𝓤 H (𝓖 .A) (𝓜 .mem) (𝓡 .run)) 𝓜 𝓡 code.env #nt2·put-head put-head-def.routine code.calls-nt2·put-head (put-head-thm.met 𝓤 H 𝓜 𝓖 𝓡)))

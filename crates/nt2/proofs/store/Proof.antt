@@ -1,5 +1,5 @@
 -- `nt2::store` meets its contract: a walk of its MIR, by hand, with a loop. A turn has the record at i from `head_at`, to which it passes a copy of `flat`, opens `heads`, and stores the record there.
--- All that it knows of `min64` and `head_at` is that each meets its contract.
+-- All that it knows of `used` and `head_at` is that each meets its contract.
 -- Assumes nothing.
 use mathlib.Core.Path.{_≡_, refl, sym, _∙_, ap, subst}
 use Prim.Native.Nat.{ℕ, _<_, _≤_, _^_, _*_, _+_, _-_, zero-le}
@@ -52,10 +52,10 @@ use Rattle.nt2.proofs.HeadLaws.{length-stored, stored-next, stored-none
 use Rattle.nt2.proofs.Head as T
 use Rattle.nt2.proofs.Head.Laws as T′
 use Rattle.nt2.proofs.Walk.{after, offset-fits, place-within, next-fits, next-le, next-less, small, within-trans}
-use Rattle.nt2.proofs.min64 as min64
-use Rattle.nt2.proofs.min64.Symbol as min64-def
-use Rattle.nt2.proofs.min64.Symbol.{name as #nt2·min64}
-use Rattle.nt2.proofs.min64.Met as min64-thm
+use Rattle.nt2.proofs.used as used
+use Rattle.nt2.proofs.used.Symbol as used-def
+use Rattle.nt2.proofs.used.Symbol.{name as #nt2·used}
+use Rattle.nt2.proofs.used.Met as used-thm
 use Rattle.nt2.proofs.head_at as head-at
 use Rattle.nt2.proofs.head_at.Symbol as head-at-def
 use Rattle.nt2.proofs.head_at.Symbol.{name as #nt2·head-at}
@@ -72,13 +72,13 @@ stayed = (stay-none-slice (0 ∷ []) tt (plain (λ _. u16)) yes, (stay-slice (1 
 -- the contracts that the proof cites
 module _ {M : Type 1} (𝓤 : URA M) (H : Heap 𝓤) (A : Atoms 𝓤) (mem : Memory → SProp 𝓤) (run : Routine → Fun 𝓤) where
   abbrev Min : Contract 𝓤
-  Min = tripleOf 𝓤 H A min64.signature (min64.spec 𝓤 H A mem run)
+  Min = tripleOf 𝓤 H A used.signature (used.spec 𝓤 H A mem run)
 
   abbrev Pick : Contract 𝓤
   Pick = tripleOf 𝓤 H A head-at.signature (head-at.spec 𝓤 H A mem run)
 
-  min-of : (n r : ℕ) → ent 𝓤 (ensured 𝓤 H A min64.ended (min64.clauses 𝓤 H A mem run) tt (n, tt) tt r) (fact 𝓤 (r ≡ lesser n))
-  min-of n r = exE 𝓤 _ (λ ws. snd∗ 𝓤 (sem 𝓤 H A (lasts min64.ended tt (n, tt) ws)) (fact 𝓤 (r ≡ lesser n)))
+  min-of : (n r : ℕ) → ent 𝓤 (ensured 𝓤 H A used.ended (used.clauses 𝓤 H A mem run) tt (n, tt) tt r) (fact 𝓤 (r ≡ lesser n))
+  min-of n r = exE 𝓤 _ (λ ws. snd∗ 𝓤 (sem 𝓤 H A (lasts used.ended tt (n, tt) ws)) (fact 𝓤 (r ≡ lesser n)))
 
   pick-of : (κ : Lft) (y : RefT (List ℕ)) (i : ℕ) (r : Head) → ent 𝓤 (ensured 𝓤 H A head-at.ended (head-at.clauses 𝓤 H A mem run) (κ, tt) (y, (i, tt)) tt r) (fact 𝓤 (r ≡ headAt (y .now) i))
   pick-of κ y i r = exE 𝓤 _ (λ ws. snd∗ 𝓤 (sem 𝓤 H A (lasts head-at.ended (κ, tt) (y, (i, tt)) ws)) (fact 𝓤 (r ≡ headAt (y .now) i)))
@@ -126,7 +126,7 @@ module _ {M : Type 1} (𝓤 : URA M) (H : Heap 𝓤) (A : Atoms 𝓤) (W : Given
   len : (k : ℕ) → length (zs k) ≡ length hs
   len k = length-stored k ys hs
 
-  -- n is what `min64` returned
+  -- n is what `used` returned
   module _ (n : ℕ) (n-is : n ≡ lesser (length hs)) where
     n-small : n ≤ 64
     n-small = subst (λ (k : ℕ). k ≤ 64) (sym n-is) (lesser-small (length hs))
@@ -258,7 +258,7 @@ module _ {M : Type 1} (𝓤 : URA M) (H : Heap 𝓤) (A : Atoms 𝓤) (W : Given
   goes-min : ent 𝓤 (emp 𝓤) (Min 𝓤 H A mem run .pre to-min)
   goes-min = qed W [] ∵ owned ! usize (Is usize) (uint-makes 𝓤 H A W w64) (length hs) _ (refl, room .0) $ nothing ! $ move ! (1 ∷ 0 ∷ []) $ join ! $ nothing ! $ join ! $ frame ! $ done !
 
-  walk : (𝓣 : Tables 𝓤 H) → Triple 𝓤 (𝓣 .C #nt2·min64) (Min 𝓤 H A mem run) → Triple 𝓤 (𝓣 .C #nt2·head-at) (Pick 𝓤 H A mem run)
+  walk : (𝓣 : Tables 𝓤 H) → Triple 𝓤 (𝓣 .C #nt2·used) (Min 𝓤 H A mem run) → Triple 𝓤 (𝓣 .C #nt2·head-at) (Pick 𝓤 H A mem run)
       → ent 𝓤 (onEntry 𝓤 H A store′.signature (κ, (κ′, tt)) (q, (q′, tt)) a vals) (WpFn 𝓤 H (𝓣 .C) (𝓣 .Λ) code.function (t ∷ s ∷ []) Post)
   walk 𝓣 known-min known-pick =
       qed W ((‵ (flft κ q) ⊛ ‵ (flft κ′ q′) ⊛ ‵ ftrue) ∷ ‵ (owns (ShrSlice (named 0) κ u16 ∷ MutSlice (named 1) κ′ R ∷ []) a vals) ∷ []) ∵ enter ! (𝓣 .C) (𝓣 .Λ) code.function (t ∷ s ∷ []) _ $
@@ -267,7 +267,7 @@ module _ {M : Type 1} (𝓤 : URA M) (H : Heap 𝓤) (A : Atoms 𝓤) (W : Given
       assigns ! (of-opd ! (load ! (from ! (fld ! refl (stop !))) (look-in ! 14 (sub ! 1 refl (whole !))))) (from ! (stop !)) (init ! 8 refl (tt, record { fits = room .0 })) $
       use0 W (raw (Min 𝓤 H A mem run .pre to-min)) goes-min $
       calls-at ! (fmOf 𝓤 H (W .laws) 𝓣) (Min 𝓤 H A mem run) known-min to-min (and-then ! (load ! (from ! (stop !)) (look ! 9 refl)) (no-more !)) (λ w.
-      use1 W (later (some (λ (r : ℕ). (‵ ftrue ⊛ ‵ (usize .own r (w ∷ []))) ⊛ raw (ensured 𝓤 H A min64.ended (min64.clauses 𝓤 H A mem run) tt (length hs, tt) tt r)))) (id⊢ 𝓤 _) $ await ! tt $ pick ! (λ r.
+      use1 W (later (some (λ (r : ℕ). (‵ ftrue ⊛ ‵ (usize .own r (w ∷ []))) ⊛ raw (ensured 𝓤 H A used.ended (used.clauses 𝓤 H A mem run) tt (length hs, tt) tt r)))) (id⊢ 𝓤 _) $ await ! tt $ pick ! (λ r.
       split ! $ move ! (1 ∷ []) $ use1 W (raw (fact 𝓤 (r ≡ lesser (length hs)))) (min-of 𝓤 H A mem run (length hs) r) $ heard ! (r ≡ lesser (length hs)) (λ e. split ! $ drop ! $
       peeks ! usize (Is usize) (shows 𝓤 H A usize) r (w ∷ []) (λ is.
       land ! (from ! (stop !)) (init ! 13 refl (uint-lawful 𝓤 H A W w64 .typed r _ is .0)) $ rewrite ! 13 (λ (u : Val). ‵ (fat fullShare (tyInt w64) l₃ 0 u)) (ap only (is .0)) refl $ drop ! $
@@ -277,12 +277,12 @@ module _ {M : Type 1} (𝓤 : URA M) (H : Heap 𝓤) (A : Atoms 𝓤) (W : Given
       first ! $ blocks ! $ loops ! 𝓣 (Nearer r e) (Nearer-wf r e) (At r e 𝓣 known-pick l₀ l₁ l₂ l₃ l₄ l₅ l₆ l₇ l₈ l₉) (turns r e 𝓣 known-pick l₀ l₁ l₂ l₃ l₄ l₅ l₆ l₇ l₈ l₉) (0, zero-le)))))))))))))))
 
 module _ {M : Type 1} (𝓤 : URA M) (H : Heap 𝓤) (A : Atoms 𝓤) (W : Given 𝓤 H A) (mem : Memory → SProp 𝓤) (run : Routine → Fun 𝓤) where
-  store-walks : (𝓣 : Tables 𝓤 H) → Triple 𝓤 (𝓣 .C #nt2·min64) (Min 𝓤 H A mem run) → Triple 𝓤 (𝓣 .C #nt2·head-at) (Pick 𝓤 H A mem run) → Walks 𝓤 H A store′.ended stayed (WpFn 𝓤 H (𝓣 .C) (𝓣 .Λ) code.function) (store′.clauses 𝓤 H A mem run)
+  store-walks : (𝓣 : Tables 𝓤 H) → Triple 𝓤 (𝓣 .C #nt2·used) (Min 𝓤 H A mem run) → Triple 𝓤 (𝓣 .C #nt2·head-at) (Pick 𝓤 H A mem run) → Walks 𝓤 H A store′.ended stayed (WpFn 𝓤 H (𝓣 .C) (𝓣 .Λ) code.function) (store′.clauses 𝓤 H A mem run)
   store-walks 𝓣 known-min known-pick = walked 𝓤 H A store′.ended stayed (store′.clauses 𝓤 H A mem run) (WpFn 𝓤 H (𝓣 .C) (𝓣 .Λ) code.function) (λ κs. (slice-vals, (slice-vals, tt))) (λ κs. (shr-slice-tells (named 0) (κs .0) u16, (mut-slice-tells (named 1) (κs .1 .0) T.the-row, tt)))
       (λ κs qs bounds a g are. needs 𝓤 (256 ≤ length (a .0 .now)) _ (λ wide.
       walk 𝓤 H A W mem run (κs .0) (κs .1 .0) (qs .0) (qs .1 .0) (a .0 .ptr .0) (a .0 .ptr .1) (a .0 .name) (a .0 .now) (a .1 .0 .ptr .0) (a .1 .0 .ptr .1) (a .1 .0 .name) (a .1 .0 .now) (are .0 .0 .1) (are .1 .0 .0 .1) wide 𝓣 known-min known-pick))
 
-store-meets : {M : Type 1} (𝓤 : URA M) (H : Heap 𝓤) (A : Atoms 𝓤) → Given 𝓤 H A → (mem : Memory → SProp 𝓤) (run : Routine → Fun 𝓤) (𝓣 : Tables 𝓤 H) → Triple 𝓤 (𝓣 .C #nt2·min64) (Min 𝓤 H A mem run) → Triple 𝓤 (𝓣 .C #nt2·head-at) (Pick 𝓤 H A mem run)
+store-meets : {M : Type 1} (𝓤 : URA M) (H : Heap 𝓤) (A : Atoms 𝓤) → Given 𝓤 H A → (mem : Memory → SProp 𝓤) (run : Routine → Fun 𝓤) (𝓣 : Tables 𝓤 H) → Triple 𝓤 (𝓣 .C #nt2·used) (Min 𝓤 H A mem run) → Triple 𝓤 (𝓣 .C #nt2·head-at) (Pick 𝓤 H A mem run)
     → Meets 𝓤 H A store′.signature (WpFn 𝓤 H (𝓣 .C) (𝓣 .Λ) code.function) (store′.spec 𝓤 H A mem run)
 store-meets 𝓤 H A W mem run 𝓣 known-min known-pick =
     walk-meets 𝓤 H A store′.ended stayed W (goes-none-slice 𝓤 H A W 2 (0 ∷ []) tt (plain (λ _. u16)) yes, (goes-slice 𝓤 H A W 2 1 tt (plain (λ _. T.the-row)), tt)) (store′.clauses 𝓤 H A mem run)
@@ -294,5 +294,5 @@ store-spec 𝓤 H 𝓜 𝓖 𝓡 =
     entered 𝓤 H (tripleOf 𝓤 H (𝓖 .A) store′.signature (store′.spec 𝓤 H (𝓖 .A) (𝓜 .mem) (𝓡 .run)))
     (tables 𝓤 H 𝓜 𝓡 code.env .C) (tables 𝓤 H 𝓜 𝓡 code.env .Λ) #nt2·store code.function (code.unfolded 𝓤 H 𝓜 𝓡)
     (store-meets 𝓤 H (𝓖 .A) (givenOf 𝓤 H 𝓜 𝓖) (𝓜 .mem) (𝓡 .run) (tablesOf 𝓤 H 𝓜 (tables 𝓤 H 𝓜 𝓡 code.env))
-    (cited 𝓤 H (Min 𝓤 H (𝓖 .A) (𝓜 .mem) (𝓡 .run)) 𝓜 𝓡 code.env #nt2·min64 min64-def.routine code.calls-nt2·min64 (min64-thm.met 𝓤 H 𝓜 𝓖 𝓡))
+    (cited 𝓤 H (Min 𝓤 H (𝓖 .A) (𝓜 .mem) (𝓡 .run)) 𝓜 𝓡 code.env #nt2·used used-def.routine code.calls-nt2·used (used-thm.met 𝓤 H 𝓜 𝓖 𝓡))
     (cited 𝓤 H (Pick 𝓤 H (𝓖 .A) (𝓜 .mem) (𝓡 .run)) 𝓜 𝓡 code.env #nt2·head-at head-at-def.routine code.calls-nt2·head-at (head-at-thm.met 𝓤 H 𝓜 𝓖 𝓡)))
