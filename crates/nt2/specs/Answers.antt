@@ -4,13 +4,13 @@ use mathlib.Core.Bool.{false}
 use lib.Ieee.{Float, binary64, ofBits}
 use Rattle.field.specs.Answer.{done}
 use Rattle.message.specs.Layout.{keepAliveKind, helloKind, unsupportedKind, helloCompleteKind, assignmentKind, updateKind}
-use Rattle.message.specs.Reader.{takenOf}
+use Rattle.message.specs.Reader.{numberOf, takenOf}
 use Rattle.message.specs.declared.Decoded.{Decoded}
 use Rattle.message.specs.declared.Decoded.the-variants as D
 use Rattle.scalar.specs.declared.Scalar.{Scalar}
 use Rattle.scalar.specs.declared.Scalar.the-variants as S
 use Rattle.writer.specs.declared.Encoded.{Encoded}
-use Rattle.writer.specs.declared.Encoded.the-variants as E
+use Rattle.writer.specs.Writer.{numberOf as numberSent, sentOf}
 use Rattle.server.specs.declared.Answer.{Answer}
 use Rattle.client.specs.Copy.{CopyStart}
 use Rattle.nt2.specs.declared.Fields.{Fields}
@@ -21,28 +21,28 @@ abbrev pub sentAnswer : ℕ → ℕ → Answer
 sentAnswer number sent = record { number = number; recipients = 0; taken = 0; sent = sent }
 
 abbrev pub encodedAnswer : Encoded → Answer
-encodedAnswer (E.Refused number) = sentAnswer number 0
-encodedAnswer (E.Sent sent) = sentAnswer done sent
+encodedAnswer e = sentAnswer (numberSent e) (sentOf e)
 
 abbrev pub copyStartOf : CopyStart → Answer
 copyStartOf s = sentAnswer (s .number) 0
 
-abbrev pub loneFields : ℕ → ℕ → ℕ → Fields
-loneFields kind revision taken =
-    record { number = done; kind = kind; «type_code» = 0; revision = revision; id = 0; «entry_number» = 0; taken = taken; «name_length» = 0; «value_length» = 0 }
+-- of a message with no entry in it
+abbrev pub loneFields : Decoded → ℕ → ℕ → Fields
+loneFields d kind revision =
+    record { number = numberOf d; kind = kind; «type_code» = 0; revision = revision; id = 0; «entry_number» = 0; taken = takenOf d; «name_length» = 0; «value_length» = 0 }
 
 -- "with a refusal, every field .. but its number; an update's `type_code`, since the message carries none"
 abbrev pub fieldsOf : Decoded → Fields
 fieldsOf (D.Refused number place) =
-    record { number = number; kind = 0; «type_code» = 0; revision = 0; id = 0; «entry_number» = 0; taken = 0; «name_length» = 0; «value_length» = 0 }
-fieldsOf D.KeepAlive = loneFields keepAliveKind 0 (takenOf D.KeepAlive)
-fieldsOf (D.Hello revision) = loneFields helloKind revision (takenOf (D.Hello revision))
-fieldsOf (D.Unsupported revision) = loneFields unsupportedKind revision (takenOf (D.Unsupported revision))
-fieldsOf D.HelloComplete = loneFields helloCompleteKind 0 (takenOf D.HelloComplete)
+    record { number = numberOf (D.Refused number place); kind = 0; «type_code» = 0; revision = 0; id = 0; «entry_number» = 0; taken = 0; «name_length» = 0; «value_length» = 0 }
+fieldsOf D.KeepAlive = loneFields D.KeepAlive keepAliveKind 0
+fieldsOf (D.Hello revision) = loneFields (D.Hello revision) helloKind revision
+fieldsOf (D.Unsupported revision) = loneFields (D.Unsupported revision) unsupportedKind revision
+fieldsOf D.HelloComplete = loneFields D.HelloComplete helloCompleteKind 0
 fieldsOf (D.Assignment nameLength type id number valueLength) =
-    record { number = done; kind = assignmentKind; «type_code» = type; revision = 0; id = id; «entry_number» = number; taken = takenOf (D.Assignment nameLength type id number valueLength); «name_length» = nameLength; «value_length» = valueLength }
+    record { number = numberOf (D.Assignment nameLength type id number valueLength); kind = assignmentKind; «type_code» = type; revision = 0; id = id; «entry_number» = number; taken = takenOf (D.Assignment nameLength type id number valueLength); «name_length» = nameLength; «value_length» = valueLength }
 fieldsOf (D.Update id number valueLength) =
-    record { number = done; kind = updateKind; «type_code» = 0; revision = 0; id = id; «entry_number» = number; taken = takenOf (D.Update id number valueLength); «name_length» = 0; «value_length» = valueLength }
+    record { number = numberOf (D.Update id number valueLength); kind = updateKind; «type_code» = 0; revision = 0; id = id; «entry_number» = number; taken = takenOf (D.Update id number valueLength); «name_length» = 0; «value_length» = valueLength }
 
 abbrev zeroDouble : Float
 zeroDouble = ofBits binary64 0

@@ -341,6 +341,15 @@ pub fn listing<I: Implementation>(input: &[u8]) -> String {
     text
 }
 
+/// The inputs of the listing program's cases, each with what it writes.
+pub fn listing_cases(folder: &Path) -> Checked<Vec<(Vec<u8>, String)>> {
+    let file = "listing.json";
+    let text = fs::read_to_string(folder.join(file)).map_err(|e| format!("{file}: {e}"))?;
+    let json = Json::parse(&text).map_err(|e| format!("{file}: {e}"))?;
+    let cases = member(&json, "cases")?.list()?.iter();
+    cases.map(|case| Ok((bytes(case, "i")?, member(case, "text")?.text()?.to_string()))).collect()
+}
+
 fn check_listing<I: Implementation>(case: &Json) -> Checked {
     let text = listing::<I>(&bytes(case, "i")?);
     if text == member(case, "text")?.text()? { Ok(()) } else { Err(format!("listing {text:?}")) }
