@@ -10,7 +10,7 @@ use std::sync::atomic::{AtomicBool, AtomicU64, Ordering};
 use std::thread;
 use std::time::{Duration, Instant};
 
-/// Calls of one session, which begins with a table of its own.
+/// Calls of one series, which begins with a table of its own.
 const STEPS: usize = 400;
 
 /// Comparisons by call and number.
@@ -76,7 +76,7 @@ struct Side {
     out: Guarded<u8>,
 }
 
-struct Session<L, R> {
+struct Series<L, R> {
     generator: Generator,
     /// The memory before a call.
     before: (Memory, Memory),
@@ -86,7 +86,7 @@ struct Session<L, R> {
     implementations: PhantomData<(L, R)>,
 }
 
-impl<L: Implementation, R: Implementation> Session<L, R> {
+impl<L: Implementation, R: Implementation> Series<L, R> {
     fn new(seed: u64) -> Self {
         let mut generator = Generator::new(seed, Weights::ALL);
         let memory = |generator: &mut Generator| {
@@ -102,7 +102,7 @@ impl<L: Implementation, R: Implementation> Session<L, R> {
             if generator.random.percent(40) { server.clone() } else { memory(&mut generator) };
         let out = Guarded::output(LONGEST_HELLO_ANSWER + 64);
         let side = || Side { server: server.clone(), copy: copy.clone(), out: out.clone() };
-        Session {
+        Series {
             left: side(),
             right: side(),
             before: (server, copy),
@@ -208,14 +208,14 @@ fn check_memory(
 /// How much is compared.
 #[derive(Clone, Copy, Debug)]
 pub struct Bounds {
-    /// The first session's seed; each next session's is one more.
+    /// The first series' seed; each next one's is one more.
     pub seed: u64,
     pub comparisons: u64,
     pub time: Duration,
     pub threads: usize,
 }
 
-/// Sessions until there are enough comparisons or the time is over.
+/// Series until there are enough comparisons or the time is over.
 pub fn compare<L: Implementation, R: Implementation>(bounds: Bounds) -> Result<Report, String> {
     let (next, made) = (AtomicU64::new(bounds.seed), AtomicU64::new(0));
     let (failed, start) = (AtomicBool::new(false), Instant::now());
@@ -226,12 +226,12 @@ pub fn compare<L: Implementation, R: Implementation>(bounds: Bounds) -> Result<R
             && !failed.load(Ordering::Relaxed)
         {
             let seed = next.fetch_add(1, Ordering::Relaxed);
-            let session = Session::<L, R>::new(seed).run().map_err(|failure| {
+            let series = Series::<L, R>::new(seed).run().map_err(|failure| {
                 failed.store(true, Ordering::Relaxed);
                 format!("seed {seed}, {failure}")
             })?;
-            made.fetch_add(session.comparisons, Ordering::Relaxed);
-            report.add(&session);
+            made.fetch_add(series.comparisons, Ordering::Relaxed);
+            report.add(&series);
         }
         Ok(report)
     };
@@ -239,7 +239,7 @@ pub fn compare<L: Implementation, R: Implementation>(bounds: Bounds) -> Result<R
         let workers: Vec<_> = (0..bounds.threads.max(1)).map(|_| scope.spawn(work)).collect();
         let mut total = Report::new();
         for worker in workers {
-            let report: Result<Report, String> = worker.join().map_err(|_| "a session panicked")?;
+            let report: Result<Report, String> = worker.join().map_err(|_| "a series panicked")?;
             total.add(&report?);
         }
         Ok(total)

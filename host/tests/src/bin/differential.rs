@@ -1,7 +1,7 @@
 //! Compares the library with the reference on random calls.
 //!
 //! Arguments: `--seed N`, `--comparisons N`, `--seconds N`, `--threads N`. A failure names the seed
-//! of its session; `--seed N --comparisons 1 --threads 1` repeats it.
+//! of its series; `--seed N --comparisons 1 --threads 1` repeats it.
 
 use nt2_tests::arguments::Arguments;
 use nt2_tests::differential::{Bounds, compare};
