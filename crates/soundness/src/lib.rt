@@ -94,7 +94,7 @@ pub fn table_is_sound(heads: &[u16], bytes: &[u8], count: u16) -> bool
     if bytes.len() < table::BYTES_SIZE {
         return false;
     }
-    if count > 64 {
+    if count > table::MAX_ENTRIES as u16 {
         return false;
     }
     let n = count as usize;

@@ -26,6 +26,9 @@ returns-2 c =
     let m = memory (c .before .before .before .before) in
     sym (is-false (soundTable 64 m) (λ h. absurd (omega (arith, sound-facts 64 m h .holds .bytes-hold))))
 
+cast-if3 : tie.Need-cast-if3
+cast-if3 c = search needs
+
 returns-3 : tie.Need-returns-3
 returns-3 c =
     let m = memory (c .before .before .before .before .before) in
@@ -62,6 +65,7 @@ table-is-sound-spec =
     (tie.spec
     returns
     returns-2
+    cast-if3
     returns-3
     entries-are-sound-requires
     returns-4
