@@ -1,13 +1,13 @@
 -- Laws of `bytesEqual`.
 use mathlib.Core.Path.{_≡_, refl, sym, ap}
-use mathlib.Core.Bool.{Bool, true, false, and-eq-true-iff, false≢true}
+use mathlib.Core.Bool.{Bool, true, false, _&&_, and-assoc, and-eq-true-iff, false≢true}
 use mathlib.Core.List.{List, [], _∷_}
-use Prim.Native.Nat.{ℕ, _+_, _<_}
+use Prim.Native.Nat.{ℕ, suc, _+_, _<_}
 use native.Mathlib.Numerals.{add-one}
 use lib.Dec.{eqb}
 use lib.ListN.{length, getD, drop}
 use lib.Seq.{drop-cons, drop-length}
-use borrow.Author.Tests.{eqb-true, eq-eqb, ne-eqb}
+use borrow.Author.Tests.{eqb-true, eq-eqb}
 use Rattle.field.specs.Octets.{bytesEqual}
 
 pub is-false : (t : Bool) → (t ≡ true → ⊥) → t ≡ false
@@ -49,14 +49,11 @@ bytes-equal-length a b h = bytes-equal-false a b (λ e. h (ap length e))
 
 -- ---- a comparison byte by byte
 
-pub equal-same : (a b : List ℕ) (k : ℕ) → k < length a → k < length b → getD a k 0 ≡ getD b k 0
-    → bytesEqual (drop k a) (drop k b) ≡ bytesEqual (drop (k + 1) a) (drop (k + 1) b)
+pub equal-step : (t : Bool) (a b : List ℕ) (k : ℕ) → k < length a → k < length b
+    → (t && bytesEqual (drop k a) (drop k b)) ≡ (t && eqb (getD a k 0) (getD b k 0) && bytesEqual (drop (k + 1) a) (drop (k + 1) b))
 unfolding bytesEqual
-equal-same a b k h g e = rw (drop-cons a k 0 h, drop-cons b k 0 g, eq-eqb (getD a k 0) (getD b k 0) e, add-one)
-
-pub equal-other : (a b : List ℕ) (k : ℕ) → k < length a → k < length b → (getD a k 0 ≡ getD b k 0 → ⊥) → bytesEqual (drop k a) (drop k b) ≡ false
-unfolding bytesEqual
-equal-other a b k h g e = rw (drop-cons a k 0 h, drop-cons b k 0 g, ne-eqb (getD a k 0) (getD b k 0) e)
+equal-step t a b k h g =
+    rw (drop-cons a k 0 h, drop-cons b k 0 g, add-one) (sym (and-assoc t (eqb (getD a k 0) (getD b k 0)) (bytesEqual (drop (suc k) a) (drop (suc k) b))))
 
 pub equal-end : (a b : List ℕ) (k : ℕ) → k ≡ length a → k ≡ length b → bytesEqual (drop k a) (drop k b) ≡ true
 unfolding bytesEqual

@@ -1,6 +1,8 @@
 // Fields of a fixed width, read from a lent message and written into a lent output.
 ghost use mathlib.Core.Path.{_≡_};
+ghost use mathlib.Core.Bool.{_&&_};
 ghost use mathlib.Core.List.{_∷_, []};
+ghost use lib.Dec.{eqb};
 ghost use Prim.Native.Nat.{_+_, _^_, _≤_, _<_};
 ghost use lib.ListN.{length};
 ghost use Rattle.field.specs.Octets.{encode16, overwriteAt, bytesEqual};
@@ -127,19 +129,25 @@ pub fn copy_into(out: &mut [u8], at: usize, src: &[u8])
     }
 }
 
-// Whether two runs of bytes are equal.
+// Whether bytes were equal so far and two more are.
+fn still_equal(so_far: bool, x: u8, y: u8) -> bool
+    ensures { λ r. ⌜ r ≡ («so_far» && eqb x y) ⌝ }
+{
+    if x == y { so_far } else { false }
+}
+
+// Whether two runs of bytes are equal: one pass with no way out, which the compiler does many bytes at a time.
 pub fn same_bytes(a: &[u8], b: &[u8]) -> bool
     ensures { λ r. ⌜ r ≡ bytesEqual (now (a .entry)) (now (b .entry)) ⌝ }
 {
     if a.len() != b.len() {
         return false;
     }
+    let mut equal = true;
     let mut k = 0;
     while k < a.len() {
-        if a[k] != b[k] {
-            return false;
-        }
+        equal = still_equal(equal, a[k], b[k]);
         k += 1;
     }
-    true
+    equal
 }

@@ -61,7 +61,7 @@ fn refused(number: u8) -> Answer
 fn is_sound(heads: &[u16], bytes: &[u8], count: u16, marks: &[u8]) -> bool
     ensures { λ r. ⌜ r ≡ (soundTable maxEntries (tableMemory (now (heads .entry)) (now (bytes .entry)) count) && soundMarks (now (marks .entry))) ⌝ }
 {
-    if !soundness::table_is_sound(heads, bytes, count) {
+    if !soundness::table_is_sound(&heads[0..], &bytes[0..], count) {
         return false;
     }
     soundness::marks_are_sound(marks)

@@ -1,9 +1,15 @@
 // Whether lent memory is sound.
 use field::Parsed;
+use std::num::wrapping_add_u16;
 ghost use mathlib.Core.Path.{_≡_};
-ghost use Prim.Native.Nat.{_≤_, _<_};
-ghost use Rattle.table.specs.Names.{namesDiffer};
+ghost use Prim.Native.Nat.{_+_, _*_, _≤_, _<_};
+ghost use lib.Dec.{eqb};
+ghost use lib.ListN.{length};
+ghost use Rattle.field.specs.Choice.{pick};
+ghost use Rattle.message.specs.Layout.{maxNameLength};
+ghost use Rattle.table.specs.Names.{nameHeld, namesDiffer};
 ghost use Rattle.table.specs.Table.{Holds, Named, entryAt, tabulate, maxEntries};
+ghost use Rattle.soundness.specs.Fingerprint.{fingerprints, several, weightAt, fingerprintOf, Remembers};
 ghost use Rattle.soundness.specs.Sound.{accepted, allBelow, soundEntry, soundTable, soundMarks};
 
 pub const CONNECTIONS: usize = 16;
@@ -14,6 +20,12 @@ pub const CLOSED: u8 = 0;
 pub const OPEN: u8 = 1;
 
 pub const GREETED: u8 = 2;
+
+// A name's fingerprint is below this number.
+const FINGERPRINTS: usize = 1024;
+
+// The mark of a fingerprint that more than one entry has.
+const SEVERAL: u8 = 255;
 
 fn is_accepted(p: Parsed) -> bool
     ensures { λ r. ⌜ r ≡ accepted p ⌝ }
@@ -66,9 +78,66 @@ fn entries_are_sound(heads: &[u16], bytes: &[u8], count: usize) -> bool
     true
 }
 
-// Whether the names of so many entries all differ: none is held by an entry before it.
-fn names_differ(heads: &[u16], bytes: &[u8], count: usize) -> bool
+// A byte of a name by the weight of its place.
+fn weigh(b: u8, k: u16) -> u16
+    requires { ⌜ k ≤ maxNameLength ⌝ }
+    ensures { λ r. ⌜ r ≡ b * weightAt k ⌝ }
+{
+    (b as u16) * (1 + k * 161 % 256)
+}
+
+// A number that equal names share.
+fn fingerprint(name: &[u8]) -> usize
+    requires { ⌜ length (now name) ≤ maxNameLength ⌝ }
+    ensures { λ r. ⌜ r ≡ fingerprintOf (now (name .entry)) ⌝ }
+{
+    let mut sum: u16 = 0;
+    let mut k = 0;
+    while k < name.len() {
+        sum = wrapping_add_u16(sum, weigh(name[k], k as u16));
+        k += 1;
+    }
+    (sum as usize) % FINGERPRINTS
+}
+
+// Whether entry i's name is held by an entry before it, where its fingerprint has this mark.
+fn held_before(heads: &[u16], bytes: &[u8], i: usize, mark: u8) -> bool
+    requires { ⌜ (i < maxEntries) × Named (i + 1) (now heads) (now bytes) ⌝ }
+    requires { ⌜ Remembers i (entryAt (now heads) (now bytes)) mark ⌝ }
+    ensures { λ r. ⌜ r ≡ nameHeld (entryAt (now (heads .entry)) (now (bytes .entry)) i .name) (tabulate i (entryAt (now (heads .entry)) (now (bytes .entry)))) ⌝ }
+{
+    if mark == 0 {
+        return false;
+    }
+    let head = table::HEAD_SIZE * i;
+    let name_at = table::ENTRY_SIZE * i;
+    let name_end = name_at + (heads[head] as usize);
+    let other = (mark - 1) as usize;
+    if other >= i {
+        return table::find_name(heads, bytes, i, &bytes[name_at..name_end]) < i;
+    }
+    let other_head = table::HEAD_SIZE * other;
+    let other_at = table::ENTRY_SIZE * other;
+    let other_end = other_at + (heads[other_head] as usize);
+    field::same_bytes(&bytes[other_at..other_end], &bytes[name_at..name_end])
+}
+
+// The mark of a fingerprint once entry i has it too.
+fn remember(mark: u8, i: usize) -> u8
+    requires { ⌜ i < maxEntries ⌝ }
+    ensures { λ r. ⌜ r ≡ pick (eqb mark 0) (i + 1) several ⌝ }
+{
+    if mark == 0 {
+        return (i + 1) as u8;
+    }
+    SEVERAL
+}
+
+// Whether the names of so many entries all differ: none is held by an entry before it. Each fingerprint has a mark in `marks`, whatever that held
+// before: 0 for none or entry i + 1 for one entry so far, or SEVERAL.
+fn all_differ(heads: &[u16], bytes: &[u8], count: usize, marks: &mut [u8]) -> bool
     requires { ⌜ (count ≤ maxEntries) × Named count (now heads) (now bytes) ⌝ }
+    requires { ⌜ fingerprints ≤ length (now marks) ⌝ }
     ensures { λ r. ⌜ r ≡ namesDiffer (tabulate count (entryAt (now (heads .entry)) (now (bytes .entry)))) ⌝ }
 {
     let mut i = 0;
@@ -76,12 +145,27 @@ fn names_differ(heads: &[u16], bytes: &[u8], count: usize) -> bool
         let head = table::HEAD_SIZE * i;
         let name_at = table::ENTRY_SIZE * i;
         let name_end = name_at + (heads[head] as usize);
-        if table::find_name(heads, bytes, i, &bytes[name_at..name_end]) < i {
+        let f = fingerprint(&bytes[name_at..name_end]);
+        let mark = marks[f];
+        if held_before(heads, bytes, i, mark) {
             return false;
         }
+        marks[f] = remember(mark, i);
         i += 1;
     }
     true
+}
+
+// Whether the names of so many entries all differ, each looked at once.
+fn names_differ(heads: &[u16], bytes: &[u8], count: usize) -> bool
+    requires { ⌜ (count ≤ maxEntries) × Named count (now heads) (now bytes) ⌝ }
+    ensures { λ r. ⌜ r ≡ namesDiffer (tabulate count (entryAt (now (heads .entry)) (now (bytes .entry)))) ⌝ }
+{
+    if count < 2 {
+        return true;
+    }
+    let mut marks = [0u8; FINGERPRINTS];
+    all_differ(heads, bytes, count, &mut marks)
 }
 
 // Whether a lent table is sound, with room for 64 entries.

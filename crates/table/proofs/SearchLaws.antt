@@ -1,20 +1,20 @@
 -- Laws of the names in a lent table, and of the search over them.
-use mathlib.Core.Path.{_≡_, ap, _∙_}
-use mathlib.Core.Bool.{true, false}
+use mathlib.Core.Path.{_≡_, refl, sym, ap, _∙_}
+use mathlib.Core.Bool.{Bool, true, false, not, _&&_, true≢false}
 use mathlib.Core.List.{List}
 use Prim.Native.Nat.{ℕ, _+_, _-_, _*_, _≤_, _<_}
 use native.Mathlib.Nat.{add-zero}
 use native.Mathlib.Numerals.{add-one}
 use native.Mathlib.Omega.{arith}
 use lib.ListN.{length, getD, take, drop, length-drop}
-use lib.Seq.{getD-take, getD-drop, length-take-le}
-use borrow.Author.Tests.{le-ltb, lt-ltb}
+use lib.Seq.{length-take-le}
+use borrow.Author.Tests.{ltb-true, le-ltb, lt-ltb}
 use Rattle.message.specs.Layout.{Entry}
 use Rattle.field.specs.Octets.{bytesEqual}
 use Rattle.field.proofs.EqualLaws.{is-false, bytes-equal-true}
 use Rattle.table.specs.Names.{holder, nameHeld, namesDiffer}
 use Rattle.table.specs.Table.{TableMemory, Named, Readable, entryAt, entriesOf, headField, tabulate}
-use Rattle.table.proofs.NamesLaws.{holder-found, holder-absent, holder-first, differ-last, differ-at, at-differ}
+use Rattle.table.proofs.NamesLaws.{holder-found, holder-absent, holder-first, held-at, differ-last, differ-at, at-differ}
 use Rattle.table.proofs.TabulateLaws.{length-tabulate, getD-tabulate, length-entries}
 
 -- the first number of a head
@@ -29,11 +29,6 @@ unfolding entryAt
 name-length n heads bytes i m l =
     length-take-le (headField heads i 0) (drop (320 * i) bytes) (omega (arith, m .names-fit i l, m .holds .bytes-hold, length-drop (320 * i) bytes))
     ∙ first-field heads i
-
-pub name-byte : (heads bytes : List ℕ) (i k : ℕ) → k < getD heads (4 * i) 0 → getD (entryAt heads bytes i .name) k 0 ≡ getD bytes (320 * i + k) 0
-unfolding entryAt
-name-byte heads bytes i k h =
-    getD-take (headField heads i 0) (drop (320 * i) bytes) k 0 (omega (arith, first-field heads i)) ∙ getD-drop (320 * i) bytes k 0
 
 pub value-fits : (n : ℕ) (heads bytes : List ℕ) (i : ℕ) → Readable n heads bytes → i < n → getD heads (4 * i + 1) 0 ≤ 256
 value-fits n heads bytes i r l = r .values-fit i l
@@ -74,20 +69,36 @@ below-differ n f h =
     let b : j < n = omega (arith, length-tabulate n f) in
     h i j l b (rw (getD-tabulate n f i (f 0) (omega arith), getD-tabulate n f j (f 0) b) at e))
 
--- entry i's name is held by none before it
-pub differ-more : (i : ℕ) (f : ℕ → Entry) → namesDiffer (tabulate i f) ≡ true → i ≤ holder (f i .name) (tabulate i f) → namesDiffer (tabulate (i + 1) f) ≡ true
-unfolding tabulate nameHeld
-differ-more i f h l =
-    rw (add-one, differ-last (tabulate i f) (f i), h, le-ltb (holder (f i .name) (tabulate i f)) (length (tabulate i f)) (omega (arith, length-tabulate i f)))
+-- ---- a name held by the first n entries, by their places
 
--- it is held by one before it
-pub differ-held : (n : ℕ) (f : ℕ → Entry) (i : ℕ) → i < n → holder (f i .name) (tabulate i f) < i → namesDiffer (tabulate n f) ≡ false
-differ-held n f i l h = is-false (namesDiffer (tabulate n f)) (λ d. differ-below n f d (holder (f i .name) (tabulate i f)) i h l same)
+pub absent-below : (name : List ℕ) (f : ℕ → Entry) (n : ℕ) → ((i : ℕ) → i < n → bytesEqual (f i .name) name ≡ false) → nameHeld name (tabulate n f) ≡ false
+unfolding nameHeld
+absent-below name f n h = le-ltb (holder name (tabulate n f)) (length (tabulate n f)) (omega (arith, holder-below name f n h, length-tabulate n f))
+
+pub held-below : (name : List ℕ) (f : ℕ → Entry) (n i : ℕ) → i < n → bytesEqual (f i .name) name ≡ true → nameHeld name (tabulate n f) ≡ true
+held-below name f n i l e = go (nameHeld name (tabulate n f)) refl
   where
+    go : (t : Bool) → nameHeld name (tabulate n f) ≡ t → t ≡ true
+    go true q = refl
+    go false q = absurd (true≢false (sym e ∙ rw (getD-tabulate n f i (f 0) l) at (held-at name (tabulate n f) (f 0) i q (omega (arith, length-tabulate n f)))))
+
+-- one entry more
+pub differ-next : (i : ℕ) (f : ℕ → Entry) → namesDiffer (tabulate (i + 1) f) ≡ (namesDiffer (tabulate i f) && not (nameHeld (f i .name) (tabulate i f)))
+unfolding tabulate
+differ-next i f = rw add-one (differ-last (tabulate i f) (f i))
+
+-- entry i's name is held by one before it
+pub differ-held : (n : ℕ) (f : ℕ → Entry) (i : ℕ) → i < n → nameHeld (f i .name) (tabulate i f) ≡ true → namesDiffer (tabulate n f) ≡ false
+unfolding nameHeld
+differ-held n f i l t = is-false (namesDiffer (tabulate n f)) (λ d. differ-below n f d (holder (f i .name) (tabulate i f)) i h l same)
+  where
+    h : holder (f i .name) (tabulate i f) < i
+    h = omega (arith, ltb-true (holder (f i .name) (tabulate i f)) (length (tabulate i f)) t, length-tabulate i f)
+
     same : f (holder (f i .name) (tabulate i f)) .name ≡ f i .name
     same =
         bytes-equal-true (f (holder (f i .name) (tabulate i f)) .name) (f i .name)
-        (rw (getD-tabulate i f (holder (f i .name) (tabulate i f)) (f 0) h) at (holder-found (f i .name) (tabulate i f) (f 0) (omega (arith, length-tabulate i f))))
+        (rw (getD-tabulate i f (holder (f i .name) (tabulate i f)) (f 0) h) at (holder-found (f i .name) (tabulate i f) (f 0) (omega (arith, h, length-tabulate i f))))
 
 -- ---- parts of memory
 

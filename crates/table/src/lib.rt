@@ -42,28 +42,16 @@ pub fn find_name(heads: &[u16], bytes: &[u8], count: usize, name: &[u8]) -> usiz
     ensures { λ r. ⌜ r ≡ holder (now (name .entry)) (tabulate count (entryAt (now (heads .entry)) (now (bytes .entry)))) ⌝ }
 {
     let mut i = 0;
-    let id = 'entries: loop {
-        if i >= count {
-            break 'entries count;
-        }
+    while i < count {
         let head = HEAD_SIZE * i;
-        let n = heads[head] as usize;
-        if n == name.len() {
-            let from = ENTRY_SIZE * i;
-            let mut k = 0;
-            loop {
-                if k >= n {
-                    break 'entries i;
-                }
-                if bytes[from + k] != name[k] {
-                    break;
-                }
-                k += 1;
-            }
+        let name_at = ENTRY_SIZE * i;
+        let name_end = name_at + (heads[head] as usize);
+        if field::same_bytes(&bytes[name_at..name_end], name) {
+            return i;
         }
         i += 1;
-    };
-    id
+    }
+    count
 }
 
 // An update of a held ID, read with its stored type. `bytes` is lent for the contract.

@@ -117,12 +117,12 @@ fn read_array(element: u8, s: &[u8]) -> Parsed
     read_elements(element, count, s)
 }
 
-// The value of a type at the start of the bytes.
+// The value of a type at the start of the bytes. They go on as a part of themselves (DECISIONS 43).
 pub fn read_value(t: u8, s: &[u8]) -> Parsed
     ensures { λ r. ⌜ r ≡ parseValue t (now (s .entry)) ⌝ }
 {
     if t <= STRING {
-        return read_element(t, 0, s);
+        return read_element(t, 0, &s[0..]);
     }
     if !known_type(t) {
         return Parsed::Refused(UNKNOWN_TYPE, 0);

@@ -1,125 +1,103 @@
-use mathlib.Core.Path.{_≡_, refl, sym, _∙_}
+use mathlib.Core.Path.{_≡_, sym, _∙_}
 use mathlib.Core.Bool.{false}
 use mathlib.Core.List.{List}
-use mathlib.Core.Logic.{⊎-elim}
 use Prim.Native.Nat.{ℕ, _-_, _*_, _≤_, _<_}
 use native.Mathlib.Omega.{arith}
-use lib.ListN.{length, getD, drop}
 use borrow.Author.Count.{below-more}
+use borrow.Author.Needs.{needs}
+use lib.ListN.{getD}
+use Rattle.message.specs.Layout.{Entry}
 use Rattle.field.specs.Octets.{bytesEqual}
 use Rattle.table.specs.Table.{entryAt}
-use Rattle.field.proofs.EqualLaws.{bytes-equal-length, equal-same, equal-other, equal-end}
-use Rattle.table.proofs.SearchLaws.{holder-below, holder-at, name-fits, name-length, name-byte}
+use Rattle.table.proofs.SearchLaws.{holder-below, holder-at, name-fits, name-part}
 use Rattle.table.proofs.find_name.Statement.{statement}
 use Rattle.table.proofs.find_name.Tie as tie
 
 abbrev Inv-loop : tie.InvT-loop
-Inv-loop heads bytes count name i head n from k₀ k = (k ≤ n) × (bytesEqual (entryAt heads bytes i .name) name ≡ bytesEqual (drop k (entryAt heads bytes i .name)) (drop k name))
+Inv-loop heads bytes count name i₀ i = (i ≤ count) × ((j : ℕ) → j < i → bytesEqual (entryAt heads bytes j .name) name ≡ false)
 
 abbrev μ-loop : tie.MeasureT-loop
-μ-loop heads bytes count name i head n from k₀ k = n - k
+μ-loop heads bytes count name i₀ i = count - i
 
-abbrev Inv-entries : tie.InvT-entries
-Inv-entries heads bytes count name i₀ i = (i ≤ count) × ((j : ℕ) → j < i → bytesEqual (entryAt heads bytes j .name) name ≡ false)
+-- in a turn: the heads, the bytes, the name and the entry looked at
+abbrev H : tie.In-loop Inv-loop μ-loop → List ℕ
+H c = c .before .before .before .before .before .args .heads .now
 
-abbrev μ-entries : tie.MeasureT-entries
-μ-entries heads bytes count name i₀ i = count - i
+abbrev Y : tie.In-loop Inv-loop μ-loop → List ℕ
+Y c = c .before .before .before .before .before .args .bytes .now
 
--- in a turn: the heads, the bytes, and the entry looked at
-abbrev H : tie.Else1 Inv-loop μ-loop Inv-entries μ-entries → List ℕ
-H c = c .before .before .args .heads .now
+abbrev N : tie.In-loop Inv-loop μ-loop → List ℕ
+N c = c .before .before .before .before .before .args .name .now
 
-abbrev Y : tie.Else1 Inv-loop μ-loop Inv-entries μ-entries → List ℕ
-Y c = c .before .before .args .bytes .now
+abbrev I : tie.In-loop Inv-loop μ-loop → ℕ
+I c = c .before .loop .i
 
-abbrev I : tie.Else1 Inv-loop μ-loop Inv-entries μ-entries → ℕ
-I c = c .before .entries .i
+abbrev E : tie.In-loop Inv-loop μ-loop → ℕ → Entry
+E c = entryAt (H c) (Y c)
 
-fits : (c : tie.Else1 Inv-loop μ-loop Inv-entries μ-entries) → getD (H c) (4 * I c) 0 ≤ 64
-fits c = name-fits (c .before .before .args .count) (H c) (Y c) (I c) (c .before .before .pre .1) (c .if1 .left)
+fits : (c : tie.In-loop Inv-loop μ-loop) → getD (H c) (4 * I c) 0 ≤ 64
+fits c = name-fits (c .before .before .before .before .before .args .count) (H c) (Y c) (I c) (c .before .before .before .before .before .pre .1) (c .loop-test .taken)
 
-len : (c : tie.Else1 Inv-loop μ-loop Inv-entries μ-entries) → length (entryAt (H c) (Y c) (I c) .name) ≡ getD (H c) (4 * I c) 0
-len c = name-length (c .before .before .args .count) (H c) (Y c) (I c) (c .before .before .pre .1) (c .if1 .left)
+compared : (c : tie.After-same-bytes Inv-loop μ-loop)
+    → c .same-bytes .result ≡ bytesEqual (E (c .before .before .before) (I (c .before .before .before)) .name) (N (c .before .before .before))
+compared c =
+    let s = c .before .before .before in
+    rw (name-part (H s) (Y s) (I s)) at (c .same-bytes .ensures)
 
--- a turn that ended without the name
-other : (c : tie.Joined2 Inv-loop μ-loop Inv-entries μ-entries)
-    → bytesEqual (entryAt (H (c .before .before)) (Y (c .before .before)) (I (c .before .before)) .name) (c .before .before .before .before .args .name .now) ≡ false
-other c =
-    let t = c .before .before in
-    let name = t .before .before .args .name .now in
-    let e = entryAt (H t) (Y t) (I t) .name in
-    ⊎-elim
-    (λ w. w .1 .inv .1 ∙ equal-other e name (w .1 .k) (omega (arith, len t, w .2)) (omega (arith, w .0, w .2))
-    (λ q. w .5 .taken (sym (name-byte (H t) (Y t) (I t) (w .1 .k) (omega (arith, w .2))) ∙ q)))
-    (λ w. bytes-equal-length e name (λ q. w .left (sym (len t) ∙ q)))
-    (c .if2 .came)
+loop-holds : tie.Need-loop-holds Inv-loop μ-loop
+loop-holds c = (omega arith, λ j h. absurd (omega arith))
 
-entries-holds : tie.Need-entries-holds Inv-loop μ-loop Inv-entries μ-entries
-entries-holds c = (omega arith, λ j h. absurd (omega arith))
-
-mul-head : tie.Need-mul-head Inv-loop μ-loop Inv-entries μ-entries
+mul-head : tie.Need-mul-head Inv-loop μ-loop
 mul-head c = omega arith
 
-mul-n : tie.Need-mul-n Inv-loop μ-loop Inv-entries μ-entries
-mul-n c = omega arith
+mul-name-at : tie.Need-mul-name-at Inv-loop μ-loop
+mul-name-at c = omega arith
 
-shared-slice-read-n : tie.Need-shared-slice-read-n Inv-loop μ-loop Inv-entries μ-entries
-shared-slice-read-n c = omega arith
+mul-name-end : tie.Need-mul-name-end Inv-loop μ-loop
+mul-name-end c = omega arith
 
-cast-n : tie.Need-cast-n Inv-loop μ-loop Inv-entries μ-entries
-cast-n c = omega (arith, fits (c .before))
+shared-slice-read-name-end : tie.Need-shared-slice-read-name-end Inv-loop μ-loop
+shared-slice-read-name-end c = omega arith
 
-mul-from : tie.Need-mul-from Inv-loop μ-loop Inv-entries μ-entries
-mul-from c = omega arith
+cast-name-end : tie.Need-cast-name-end Inv-loop μ-loop
+cast-name-end c = omega (arith, fits (c .before))
 
-loop-holds : tie.Need-loop-holds Inv-loop μ-loop Inv-entries μ-entries
-loop-holds c = (omega arith, refl)
+add-name-end : tie.Need-add-name-end Inv-loop μ-loop
+add-name-end c = omega (arith, fits (c .before))
 
-add-if4 : tie.Need-add-if4 Inv-loop μ-loop Inv-entries μ-entries
-add-if4 c = omega (arith, fits (c .before .before .before .before))
+sub-same-bytes : tie.Need-sub-same-bytes Inv-loop μ-loop
+sub-same-bytes c = omega arith
 
-shared-slice-read-if4 : tie.Need-shared-slice-read-if4 Inv-loop μ-loop Inv-entries μ-entries
-shared-slice-read-if4 c = omega (arith, fits (c .before .before .before .before .before))
+part-same-bytes-start : tie.Need-part-same-bytes-start Inv-loop μ-loop
+part-same-bytes-start c = omega (arith, fits (c .before))
 
-shared-slice-read-if4-2 : tie.Need-shared-slice-read-if4-2 Inv-loop μ-loop Inv-entries μ-entries
-shared-slice-read-if4-2 c = omega arith
+part-same-bytes-end : tie.Need-part-same-bytes-end Inv-loop μ-loop
+part-same-bytes-end c = omega (arith, fits (c .before))
 
-add-k : tie.Need-add-k Inv-loop μ-loop Inv-entries μ-entries
-add-k c = omega arith
+same-bytes-requires : tie.Need-same-bytes-requires Inv-loop μ-loop
+same-bytes-requires c κs = search needs
 
-loop-less : tie.Need-loop-less Inv-loop μ-loop Inv-entries μ-entries
-loop-less c = omega arith
+returns : tie.Need-returns Inv-loop μ-loop
+returns c =
+    let s = c .before .before .before .before in
+    let a = s .before .before .before .before .before .args in
+    sym (holder-at (N s) (E s) (a .count) (I s) (s .loop-test .taken) (s .before .loop .inv .1) (sym (compared (c .before)) ∙ c .if1 .taken))
 
-loop-again : tie.Need-loop-again Inv-loop μ-loop Inv-entries μ-entries
-loop-again c =
-    let t = c .before .before .before .before .before .before .before in
-    let l = c .before .before .before .before .loop in
-    let name = t .before .before .args .name .now in
-    let e = entryAt (H t) (Y t) (I t) .name in
-    (omega arith, l .inv .1 ∙ equal-same e name (l .k) (omega (arith, len t)) (omega arith) (name-byte (H t) (Y t) (I t) (l .k) (omega arith) ∙ c .if4 .left))
-
-add-i : tie.Need-add-i Inv-loop μ-loop Inv-entries μ-entries
+add-i : tie.Need-add-i Inv-loop μ-loop
 add-i c = omega arith
 
-entries-less : tie.Need-entries-less Inv-loop μ-loop Inv-entries μ-entries
-entries-less c = omega arith
+loop-less : tie.Need-loop-less Inv-loop μ-loop
+loop-less c = omega arith
 
-entries-again : tie.Need-entries-again Inv-loop μ-loop Inv-entries μ-entries
-entries-again c = (omega arith, below-more _ _ (c .before .before .before .entries .inv .1) (other c))
+loop-again : tie.Need-loop-again Inv-loop μ-loop
+loop-again c =
+    let s = c .before .before .before .before in
+    (omega arith, below-more _ _ (s .before .loop .inv .1) (sym (compared (c .before)) ∙ c .if1 .left))
 
-returns : tie.Need-returns Inv-loop μ-loop Inv-entries μ-entries
-returns c =
-    let a = c .before .before .args in
-    sym (holder-below (a .name .now) (entryAt (a .heads .now) (a .bytes .now)) (a .count) (λ i l. c .before .entries .inv .1 i (omega arith)))
-
-returns-2 : tie.Need-returns-2 Inv-loop μ-loop Inv-entries μ-entries
+returns-2 : tie.Need-returns-2 Inv-loop μ-loop
 returns-2 c =
-    let t = c .before .before .before .before in
-    let a = t .before .before .args in
-    let l = c .before .loop in
-    let e = entryAt (H t) (Y t) (I t) .name in
-    sym (holder-at (a .name .now) (entryAt (a .heads .now) (a .bytes .now)) (a .count) (I t) (t .if1 .left) (t .before .entries .inv .1)
-    (l .inv .1 ∙ equal-end e (a .name .now) (l .k) (omega (arith, len t)) (omega arith)))
+    let a = c .before .before .before .before .before .args in
+    sym (holder-below (a .name .now) (entryAt (a .heads .now) (a .bytes .now)) (a .count) (λ j h. c .before .loop .inv .1 j (omega arith)))
 
 pub find-name-spec : {M : Type 1} → statement M
 find-name-spec =
@@ -127,23 +105,19 @@ find-name-spec =
     (tie.spec
     Inv-loop
     μ-loop
-    Inv-entries
-    μ-entries
-    entries-holds
-    mul-head
-    mul-n
-    shared-slice-read-n
-    cast-n
-    mul-from
     loop-holds
-    add-if4
-    shared-slice-read-if4
-    shared-slice-read-if4-2
-    add-k
+    mul-head
+    mul-name-at
+    mul-name-end
+    shared-slice-read-name-end
+    cast-name-end
+    add-name-end
+    sub-same-bytes
+    part-same-bytes-start
+    part-same-bytes-end
+    same-bytes-requires
+    returns
+    add-i
     loop-less
     loop-again
-    add-i
-    entries-less
-    entries-again
-    returns
     returns-2)

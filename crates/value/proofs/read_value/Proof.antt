@@ -1,20 +1,33 @@
 use Rattle.value.proofs.ValueLaws.{known-array}
-use mathlib.Core.Path.{_≡_, sym, _∙_}
+use mathlib.Core.Path.{_≡_, sym, ap, _∙_}
 use Prim.Native.Nat.{_≤_}
 use native.Mathlib.Omega.{arith}
 use borrow.Author.Tests.{le-leb, lt-leb, leb-true, not-true, not-false}
 use Rattle.field.specs.Choice.{pick}
-use Rattle.value.specs.Value.{parseValue, knownType}
+use Rattle.field.proofs.OctetsLaws.{rest-all}
+use Rattle.value.specs.Value.{parseElement, parseValue, knownType}
 use borrow.Author.Needs.{needs}
 use Rattle.value.proofs.read_value.Statement.{statement}
 use Rattle.value.proofs.read_value.Tie as tie
+
+sub-read-element : tie.Need-sub-read-element
+sub-read-element c = search needs
+
+part-read-element-start : tie.Need-part-read-element-start
+part-read-element-start c = search needs
+
+part-read-element-end : tie.Need-part-read-element-end
+part-read-element-end c = search needs
 
 read-element-requires : tie.Need-read-element-requires
 read-element-requires c κs = search needs
 
 returns : tie.Need-returns
 unfolding parseValue pick
-returns c = rw (le-leb _ _ (c .before .if1 .taken)) (c .read-element .ensures)
+returns c =
+    let w = c .before .before in
+    let a = w .before .before .args in
+    rw (le-leb _ _ (w .if1 .taken)) (c .read-element .ensures ∙ ap (parseElement (a .t) 0) (rest-all 0 (a .s .now)))
 
 known-type-requires : tie.Need-known-type-requires
 known-type-requires c κs = search needs
@@ -37,6 +50,9 @@ pub read-value-spec : {M : Type 1} → statement M
 read-value-spec =
     tie.close
     (tie.spec
+    sub-read-element
+    part-read-element-start
+    part-read-element-end
     read-element-requires
     returns
     known-type-requires

@@ -1,0 +1,30 @@
+-- Fingerprints of names, by which those that may be equal are found. No promise of a public call names them.
+use Prim.Native.Nat.{ℕ, zero, suc, _+_, _*_, _%_, _^_, _<_}
+use mathlib.Core.Path.{_≡_}
+use mathlib.Core.List.{List}
+use mathlib.Core.Logic.{_⊎_}
+use lib.ListN.{length, getD}
+use Rattle.message.specs.Layout.{Entry}
+
+abbrev pub fingerprints : ℕ
+fingerprints = 1024
+
+-- the mark of a fingerprint that more than one entry has
+abbrev pub several : ℕ
+several = 255
+
+-- neighbouring places weigh so differently that names which differ in two digits have two fingerprints
+abbrev pub weightAt : ℕ → ℕ
+weightAt k = 1 + k * 161 % 256
+
+-- the first k bytes of a name, each by the weight of its place
+unfoldable pub weighed : ℕ → List ℕ → ℕ
+weighed zero name = 0
+weighed (suc k) name = (weighed k name + getD name k 0 * weightAt k) % 2 ^ 16
+
+unfoldable pub fingerprintOf : List ℕ → ℕ
+fingerprintOf name = weighed (length name) name % fingerprints
+
+-- a mark tells which entry before entry i may have its name: only the one that it names, or it is of several
+abbrev pub Remembers : ℕ → (ℕ → Entry) → ℕ → Type 0
+Remembers i f mark = (j : ℕ) → j < i → f j .name ≡ f i .name → (mark ≡ j + 1) ⊎ (mark ≡ several)
