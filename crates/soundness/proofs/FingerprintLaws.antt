@@ -1,4 +1,4 @@
--- Laws of fingerprints, of their marks, and of names that are held before.
+-- Laws of fingerprints, of their owners, and of names that are held before.
 use mathlib.Core.Path.{_≡_, refl, sym, ap, _∙_}
 use mathlib.Core.Bool.{Bool, true, false, true≢false}
 use mathlib.Core.List.{List}
@@ -19,7 +19,7 @@ use Rattle.message.specs.Layout.{Entry}
 use Rattle.table.specs.Names.{nameHeld}
 use Rattle.table.specs.Table.{tabulate}
 use Rattle.table.proofs.SearchLaws.{held-below, absent-below}
-use Rattle.soundness.specs.Fingerprint.{fingerprints, several, weightAt, weighed, fingerprintOf, Remembers}
+use Rattle.soundness.specs.Fingerprint.{fingerprints, several, weightAt, weighed, fingerprintOf, Tells}
 
 -- ---- the number
 
@@ -43,60 +43,60 @@ pub fingerprint-small : (name : List ℕ) → fingerprintOf name < fingerprints
 unfolding fingerprintOf
 fingerprint-small name = mod-lt (weighed (length name) name) {m = 1024} (omega arith)
 
--- ---- marks
+-- ---- owners
 
--- entry j's fingerprint has a mark that names it, or is of several
-abbrev pub Marked : List ℕ → (ℕ → Entry) → ℕ → Type 0
-Marked marks f j = (getD marks (fingerprintOf (f j .name)) 0 ≡ j + 1) ⊎ (getD marks (fingerprintOf (f j .name)) 0 ≡ several)
+-- entry j owns its fingerprint, alone or as one of several
+abbrev pub Owned : List ℕ → (ℕ → Entry) → ℕ → Type 0
+Owned owners f j = (getD owners (fingerprintOf (f j .name)) 0 ≡ j + 1) ⊎ (getD owners (fingerprintOf (f j .name)) 0 ≡ several)
 
-pub remembers : (marks : List ℕ) (f : ℕ → Entry) (i : ℕ) → ((j : ℕ) → j < i → Marked marks f j) → Remembers i f (getD marks (fingerprintOf (f i .name)) 0)
-remembers marks f i all j l e = rw (ap fingerprintOf e) at (all j l)
+pub tells : (owners : List ℕ) (f : ℕ → Entry) (i : ℕ) → ((j : ℕ) → j < i → Owned owners f j) → Tells i f (getD owners (fingerprintOf (f i .name)) 0)
+tells owners f i all j l e = rw (ap fingerprintOf e) at (all j l)
 
--- with entry i marked, those before it stay so
-pub marked-more : (marks : List ℕ) (f : ℕ → Entry) (i : ℕ) → fingerprints ≤ length marks → ((j : ℕ) → j < i → Marked marks f j)
+-- once entry i owns its fingerprint too, so do those before it
+pub owned-more : (owners : List ℕ) (f : ℕ → Entry) (i : ℕ) → fingerprints ≤ length owners → ((j : ℕ) → j < i → Owned owners f j)
     → (j : ℕ) → j < i + 1
-    → Marked (set marks (fingerprintOf (f i .name)) (pick (eqb (getD marks (fingerprintOf (f i .name)) 0) 0) (i + 1) several)) f j
+    → Owned (set owners (fingerprintOf (f i .name)) (pick (eqb (getD owners (fingerprintOf (f i .name)) 0) 0) (i + 1) several)) f j
 unfolding pick
-marked-more marks f i room all = below-more _ i before here
+owned-more owners f i room all = below-more _ i before here
   where
     at′ : ℕ
     at′ = fingerprintOf (f i .name)
 
     new : ℕ
-    new = pick (eqb (getD marks at′ 0) 0) (i + 1) several
+    new = pick (eqb (getD owners at′ 0) 0) (i + 1) several
 
-    stored : getD (set marks at′ new) at′ 0 ≡ new
-    stored = getD-set-same marks at′ new 0 (omega (arith, fingerprint-small (f i .name)))
+    stored : getD (set owners at′ new) at′ 0 ≡ new
+    stored = getD-set-same owners at′ new 0 (omega (arith, fingerprint-small (f i .name)))
 
-    here : Marked (set marks at′ new) f i
-    here = go (eqb (getD marks at′ 0) 0) refl
+    here : Owned (set owners at′ new) f i
+    here = go (eqb (getD owners at′ 0) 0) refl
       where
-        go : (t : Bool) → eqb (getD marks at′ 0) 0 ≡ t → Marked (set marks at′ new) f i
+        go : (t : Bool) → eqb (getD owners at′ 0) 0 ≡ t → Owned (set owners at′ new) f i
         go true q = inl (stored ∙ rw q)
         go false q = inr (stored ∙ rw q)
 
-    before : (j : ℕ) → j < i → Marked (set marks at′ new) f j
+    before : (j : ℕ) → j < i → Owned (set owners at′ new) f j
     before j l = go (eqb (fingerprintOf (f j .name)) at′) refl
       where
-        taken : fingerprintOf (f j .name) ≡ at′ → getD marks at′ 0 ≡ 0 → ⊥
+        taken : fingerprintOf (f j .name) ≡ at′ → getD owners at′ 0 ≡ 0 → ⊥
         taken e z = ⊎-elim (λ h. omega (arith, z, rw e at h)) (λ h. omega (arith, z, rw e at h)) (all j l)
 
-        go : (t : Bool) → eqb (fingerprintOf (f j .name)) at′ ≡ t → Marked (set marks at′ new) f j
+        go : (t : Bool) → eqb (fingerprintOf (f j .name)) at′ ≡ t → Owned (set owners at′ new) f j
         go true q =
             let e = eqb-true (fingerprintOf (f j .name)) at′ q in
-            inr (rw e (stored ∙ rw (ne-eqb (getD marks at′ 0) 0 (taken e))))
-        go false q = rw (getD-set-other marks at′ (fingerprintOf (f j .name)) new 0 (eqb-false (fingerprintOf (f j .name)) at′ q)) (all j l)
+            inr (rw e (stored ∙ rw (ne-eqb (getD owners at′ 0) 0 (taken e))))
+        go false q = rw (getD-set-other owners at′ (fingerprintOf (f j .name)) new 0 (eqb-false (fingerprintOf (f j .name)) at′ q)) (all j l)
 
 -- ---- names held before
 
 -- no entry before entry i can have its name
-pub held-by-none : (f : ℕ → Entry) (i mark : ℕ) → Remembers i f mark → mark ≡ 0 → nameHeld (f i .name) (tabulate i f) ≡ false
-held-by-none f i mark r e = absent-below (f i .name) f i (λ j l. bytes-equal-false (f j .name) (f i .name) (λ q. ⊎-elim (λ h. omega (arith, h)) (λ h. omega (arith, h)) (r j l q)))
+pub held-by-none : (f : ℕ → Entry) (i owner : ℕ) → Tells i f owner → owner ≡ 0 → nameHeld (f i .name) (tabulate i f) ≡ false
+held-by-none f i owner r e = absent-below (f i .name) f i (λ j l. bytes-equal-false (f j .name) (f i .name) (λ q. ⊎-elim (λ h. omega (arith, h)) (λ h. omega (arith, h)) (r j l q)))
 
 -- one entry alone can
-pub held-by-one : (f : ℕ → Entry) (i mark o : ℕ) → Remembers i f mark → i < several → o < i → mark ≡ o + 1
+pub held-by-one : (f : ℕ → Entry) (i owner o : ℕ) → Tells i f owner → i < several → o < i → owner ≡ o + 1
     → bytesEqual (f o .name) (f i .name) ≡ nameHeld (f i .name) (tabulate i f)
-held-by-one f i mark o r small l e = go (bytesEqual (f o .name) (f i .name)) refl
+held-by-one f i owner o r small l e = go (bytesEqual (f o .name) (f i .name)) refl
   where
     go : (t : Bool) → bytesEqual (f o .name) (f i .name) ≡ t → t ≡ nameHeld (f i .name) (tabulate i f)
     go true q = sym (held-below (f i .name) f i o l q)

@@ -9,11 +9,11 @@ use Rattle.message.specs.Layout.{Entry}
 abbrev pub fingerprints : ℕ
 fingerprints = 1024
 
--- the mark of a fingerprint that more than one entry has
+-- the owner of a fingerprint that more than one entry has
 abbrev pub several : ℕ
 several = 255
 
--- neighbouring places weigh so differently that names which differ in two digits have two fingerprints
+-- chosen so that names which differ in a digit or two seldom share a fingerprint
 abbrev pub weightAt : ℕ → ℕ
 weightAt k = 1 + k * 161 % 256
 
@@ -25,6 +25,6 @@ weighed (suc k) name = (weighed k name + getD name k 0 * weightAt k) % 2 ^ 16
 unfoldable pub fingerprintOf : List ℕ → ℕ
 fingerprintOf name = weighed (length name) name % fingerprints
 
--- a mark tells which entry before entry i may have its name: only the one that it names, or it is of several
-abbrev pub Remembers : ℕ → (ℕ → Entry) → ℕ → Type 0
-Remembers i f mark = (j : ℕ) → j < i → f j .name ≡ f i .name → (mark ≡ j + 1) ⊎ (mark ≡ several)
+-- an owner tells which entry before entry i may have its name: entry j, as j + 1, or several
+abbrev pub Tells : ℕ → (ℕ → Entry) → ℕ → Type 0
+Tells i f owner = (j : ℕ) → j < i → f j .name ≡ f i .name → (owner ≡ j + 1) ⊎ (owner ≡ several)

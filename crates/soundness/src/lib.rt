@@ -9,7 +9,7 @@ ghost use Rattle.field.specs.Choice.{pick};
 ghost use Rattle.message.specs.Layout.{maxNameLength};
 ghost use Rattle.table.specs.Names.{nameHeld, namesDiffer};
 ghost use Rattle.table.specs.Table.{Holds, Named, entryAt, tabulate, maxEntries};
-ghost use Rattle.soundness.specs.Fingerprint.{fingerprints, several, weightAt, fingerprintOf, Remembers};
+ghost use Rattle.soundness.specs.Fingerprint.{fingerprints, several, weightAt, fingerprintOf, Tells};
 ghost use Rattle.soundness.specs.Sound.{accepted, allBelow, soundEntry, soundTable, soundMarks};
 
 pub const CONNECTIONS: usize = 16;
@@ -24,7 +24,7 @@ pub const GREETED: u8 = 2;
 // A name's fingerprint is below this number.
 const FINGERPRINTS: usize = 1024;
 
-// The mark of a fingerprint that more than one entry has.
+// The owner of a fingerprint that more than one entry has.
 const SEVERAL: u8 = 255;
 
 fn is_accepted(p: Parsed) -> bool
@@ -100,19 +100,19 @@ fn fingerprint(name: &[u8]) -> usize
     (sum as usize) % FINGERPRINTS
 }
 
-// Whether entry i's name is held by an entry before it, where its fingerprint has this mark.
-fn held_before(heads: &[u16], bytes: &[u8], i: usize, mark: u8) -> bool
+// Whether entry i's name is held by an entry before it, where its fingerprint has this owner.
+fn held_before(heads: &[u16], bytes: &[u8], i: usize, owner: u8) -> bool
     requires { ⌜ (i < maxEntries) × Named (i + 1) (now heads) (now bytes) ⌝ }
-    requires { ⌜ Remembers i (entryAt (now heads) (now bytes)) mark ⌝ }
+    requires { ⌜ Tells i (entryAt (now heads) (now bytes)) owner ⌝ }
     ensures { λ r. ⌜ r ≡ nameHeld (entryAt (now (heads .entry)) (now (bytes .entry)) i .name) (tabulate i (entryAt (now (heads .entry)) (now (bytes .entry)))) ⌝ }
 {
-    if mark == 0 {
+    if owner == 0 {
         return false;
     }
     let head = table::HEAD_SIZE * i;
     let name_at = table::ENTRY_SIZE * i;
     let name_end = name_at + (heads[head] as usize);
-    let other = (mark - 1) as usize;
+    let other = (owner - 1) as usize;
     if other >= i {
         return table::find_name(heads, bytes, i, &bytes[name_at..name_end]) < i;
     }
@@ -122,22 +122,22 @@ fn held_before(heads: &[u16], bytes: &[u8], i: usize, mark: u8) -> bool
     field::same_bytes(&bytes[other_at..other_end], &bytes[name_at..name_end])
 }
 
-// The mark of a fingerprint once entry i has it too.
-fn remember(mark: u8, i: usize) -> u8
+// The owner of a fingerprint once entry i has it too.
+fn joined(owner: u8, i: usize) -> u8
     requires { ⌜ i < maxEntries ⌝ }
-    ensures { λ r. ⌜ r ≡ pick (eqb mark 0) (i + 1) several ⌝ }
+    ensures { λ r. ⌜ r ≡ pick (eqb owner 0) (i + 1) several ⌝ }
 {
-    if mark == 0 {
+    if owner == 0 {
         return (i + 1) as u8;
     }
     SEVERAL
 }
 
-// Whether the names of so many entries all differ: none is held by an entry before it. Each fingerprint has a mark in `marks`, whatever that held
-// before: 0 for none or entry i + 1 for one entry so far, or SEVERAL.
-fn all_differ(heads: &[u16], bytes: &[u8], count: usize, marks: &mut [u8]) -> bool
+// Whether the names of so many entries all differ: none is held by an entry before it. `owners` has each fingerprint's owner so far: 0 where it has
+// none, i + 1 where entry i alone has it, else SEVERAL. It may hold anything at first.
+fn all_differ(heads: &[u16], bytes: &[u8], count: usize, owners: &mut [u8]) -> bool
     requires { ⌜ (count ≤ maxEntries) × Named count (now heads) (now bytes) ⌝ }
-    requires { ⌜ fingerprints ≤ length (now marks) ⌝ }
+    requires { ⌜ fingerprints ≤ length (now owners) ⌝ }
     ensures { λ r. ⌜ r ≡ namesDiffer (tabulate count (entryAt (now (heads .entry)) (now (bytes .entry)))) ⌝ }
 {
     let mut i = 0;
@@ -146,11 +146,11 @@ fn all_differ(heads: &[u16], bytes: &[u8], count: usize, marks: &mut [u8]) -> bo
         let name_at = table::ENTRY_SIZE * i;
         let name_end = name_at + (heads[head] as usize);
         let f = fingerprint(&bytes[name_at..name_end]);
-        let mark = marks[f];
-        if held_before(heads, bytes, i, mark) {
+        let owner = owners[f];
+        if held_before(heads, bytes, i, owner) {
             return false;
         }
-        marks[f] = remember(mark, i);
+        owners[f] = joined(owner, i);
         i += 1;
     }
     true
@@ -164,8 +164,8 @@ fn names_differ(heads: &[u16], bytes: &[u8], count: usize) -> bool
     if count < 2 {
         return true;
     }
-    let mut marks = [0u8; FINGERPRINTS];
-    all_differ(heads, bytes, count, &mut marks)
+    let mut owners = [0u8; FINGERPRINTS];
+    all_differ(heads, bytes, count, &mut owners)
 }
 
 // Whether a lent table is sound, with room for 64 entries.

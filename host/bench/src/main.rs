@@ -1,5 +1,5 @@
 //! Nanoseconds of every call on tables of 1, 16 and 64 entries, library beside reference in one
-//! run and on the same memory.
+//! run and on the same memory. A call that makes an entry makes the last of them.
 //!
 //! Arguments: `--rounds N` (the fastest counts), `--microseconds N` of one round.
 
@@ -15,6 +15,10 @@ use std::time::{Duration, Instant};
 use subject::{CALLS, Subject, TABLE_CALLS, VALUES};
 
 const SIZES: [usize; 3] = [1, 16, 64];
+
+/// The goals: library by reference, and 64 entries by 16.
+const MOST_RATIO: f64 = 1.0;
+const MOST_GROWTH: f64 = 4.0;
 
 #[derive(Clone, Copy)]
 struct Effort {
@@ -83,6 +87,17 @@ fn ratio(times: Times) -> f64 {
     times.library / times.reference
 }
 
+/// What a row has beyond the goals.
+fn misses(name: &str, all: &[Times], growth: f64) -> Vec<String> {
+    let slower = all.iter().zip(SIZES).filter(|(times, _)| ratio(**times) > MOST_RATIO);
+    let mut said: Vec<String> =
+        slower.map(|(times, entries)| format!("{name}, {entries}: {:.2}", ratio(*times))).collect();
+    if growth > MOST_GROWTH {
+        said.push(format!("{name}, growth: {growth:.2}"));
+    }
+    said
+}
+
 fn run() -> Result<(), String> {
     let arguments = Arguments::read(&["rounds", "microseconds"])?;
     let effort = Effort {
@@ -93,6 +108,7 @@ fn run() -> Result<(), String> {
         "ns per call: library, reference, ratio; growth: 64 entries by 16, library (reference)"
     );
     let mut hellos = Vec::new();
+    let mut beyond = Vec::new();
     for (place, values) in VALUES.iter().enumerate() {
         println!("\n{values}\n");
         println!(
@@ -117,11 +133,13 @@ fn run() -> Result<(), String> {
             for times in all.iter().filter(|times| times.reference > 0.0) {
                 print!(" {:>9.1} {:>9.1} {:>6.2}", times.library, times.reference, ratio(*times));
             }
+            let growth = (all[2].library / all[1].library, all[2].reference / all[1].reference);
             if call < TABLE_CALLS {
-                let growth = (all[2].library / all[1].library, all[2].reference / all[1].reference);
                 print!("  {:>6.2} ({:>6.2})", growth.0, growth.1);
             }
             println!();
+            let row = misses(name, &all, growth.0).into_iter();
+            beyond.extend(row.map(|miss| format!("{values}: {miss}")));
         }
     }
     println!("\nhello answer beside copying its bytes\n");
@@ -136,6 +154,8 @@ fn run() -> Result<(), String> {
             library / copied
         );
     }
+    println!("\nbeyond the goals, {MOST_RATIO:.2} and {MOST_GROWTH:.2}: {}", beyond.len());
+    beyond.iter().for_each(|miss| println!("  {miss}"));
     Ok(())
 }
 

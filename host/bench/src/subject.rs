@@ -67,7 +67,7 @@ fn prefixed(text: &[u8]) -> Vec<u8> {
 /// Name and value of an entry, the value in two versions.
 fn entry(values: usize, i: usize, version: usize) -> (Vec<u8>, u8, Vec<u8>) {
     match values {
-        0 => (format!("e{i}").into_bytes(), 0x00, vec![version as u8]),
+        0 => (format!("e{i:02}").into_bytes(), 0x00, vec![version as u8]),
         1 => {
             let lot = |n: usize| prefixed(format!("2026-{:04}", 100 * i + n).as_bytes());
             let lots: Vec<u8> = (version..version + 4).flat_map(lot).collect();

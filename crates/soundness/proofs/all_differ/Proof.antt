@@ -10,18 +10,18 @@ use Rattle.table.specs.Names.{namesDiffer}
 use Rattle.table.specs.Table.{entryAt, tabulate}
 use Rattle.table.proofs.SearchLaws.{name-fits, name-length, name-part, named-less, differ-next, differ-held}
 use Rattle.soundness.specs.Fingerprint.{fingerprintOf}
-use Rattle.soundness.proofs.FingerprintLaws.{fingerprint-small, Marked, remembers, marked-more}
+use Rattle.soundness.proofs.FingerprintLaws.{fingerprint-small, Owned, tells, owned-more}
 use Rattle.soundness.proofs.all_differ.Statement.{statement}
 use Rattle.soundness.proofs.all_differ.Tie as tie
 
 abbrev Inv-loop : tie.InvT-loop
-Inv-loop heads bytes count marks₀ i₀ marks i =
-    (i ≤ count) × (length marks ≡ length marks₀) × (namesDiffer (tabulate i (entryAt heads bytes)) ≡ true) × ((j : ℕ) → j < i → Marked marks (entryAt heads bytes) j)
+Inv-loop heads bytes count owners₀ i₀ owners i =
+    (i ≤ count) × (length owners ≡ length owners₀) × (namesDiffer (tabulate i (entryAt heads bytes)) ≡ true) × ((j : ℕ) → j < i → Owned owners (entryAt heads bytes) j)
 
 abbrev μ-loop : tie.MeasureT-loop
-μ-loop heads bytes count marks₀ i₀ marks i = count - i
+μ-loop heads bytes count owners₀ i₀ owners i = count - i
 
--- in a turn: the heads, the bytes, the marks and the entry looked at
+-- in a turn: the heads, the bytes and the entry looked at
 abbrev H : tie.In-loop Inv-loop μ-loop → List ℕ
 H c = c .before .before .before .before .before .args .heads .now
 
@@ -84,14 +84,14 @@ fingerprint-requires c κs =
     let a = s .before .before .before .before .before in
     omega (arith, fits s, name-length (a .args .count) (H s) (Y s) (I s) (a .pre .0 .1) (s .loop-test .taken), ap length (name-part (H s) (Y s) (I s)))
 
-slice-read-mark : tie.Need-slice-read-mark Inv-loop μ-loop
-slice-read-mark c = omega (arith, small (c .before), c .before .before .before .before .before .loop .inv .1)
+slice-read-owner : tie.Need-slice-read-owner Inv-loop μ-loop
+slice-read-owner c = omega (arith, small (c .before), c .before .before .before .before .before .loop .inv .1)
 
 held-before-requires : tie.Need-held-before-requires Inv-loop μ-loop
 held-before-requires c κs =
     let s = c .before .before .before .before in
     let a = s .before .before .before .before .before in
-    ((omega arith, named-less (a .args .count) (H s) (Y s) (I s + 1) (omega arith) (a .pre .0 .1)), rw (print (c .before)) (remembers (s .before .loop .marks) (E s) (I s) (s .before .loop .inv .3)))
+    ((omega arith, named-less (a .args .count) (H s) (Y s) (I s + 1) (omega arith) (a .pre .0 .1)), rw (print (c .before)) (tells (s .before .loop .owners) (E s) (I s) (s .before .loop .inv .3)))
 
 same-length : tie.Need-same-length Inv-loop μ-loop
 same-length c = c .before .before .before .before .before .before .before .loop .inv .1
@@ -101,11 +101,11 @@ returns c =
     let s = c .before .before .before .before .before .before in
     sym (differ-held (s .before .before .before .before .before .args .count) (E s) (I s) (s .loop-test .taken) (sym (c .before .held-before .ensures) ∙ c .if1 .taken))
 
-remember-requires : tie.Need-remember-requires Inv-loop μ-loop
-remember-requires c κs = omega arith
+joined-requires : tie.Need-joined-requires Inv-loop μ-loop
+joined-requires c κs = omega arith
 
-slice-write-marks : tie.Need-slice-write-marks Inv-loop μ-loop
-slice-write-marks c = omega (arith, small (c .before .before .before .before), c .before .before .before .before .before .before .before .before .loop .inv .1)
+slice-write-owners : tie.Need-slice-write-owners Inv-loop μ-loop
+slice-write-owners c = omega (arith, small (c .before .before .before .before), c .before .before .before .before .before .before .before .before .loop .inv .1)
 
 add-i : tie.Need-add-i Inv-loop μ-loop
 add-i c = omega arith
@@ -118,9 +118,9 @@ loop-again c =
     let s = c .before .before .before .before .before .before .before in
     let l = s .before .loop in (
       omega arith,
-      length-set (l .marks) _ _ ∙ l .inv .1,
+      length-set (l .owners) _ _ ∙ l .inv .1,
       rw (differ-next (I s) (E s), l .inv .2, sym (c .before .before .held-before .ensures) ∙ c .before .if1 .left),
-      rw (c .remember .ensures, print (c .before .before .before .before)) (marked-more (l .marks) (E s) (I s) (omega (arith, l .inv .1)) (l .inv .3)),
+      rw (c .joined .ensures, print (c .before .before .before .before)) (owned-more (l .owners) (E s) (I s) (omega (arith, l .inv .1)) (l .inv .3)),
     )
 
 same-length-2 : tie.Need-same-length-2 Inv-loop μ-loop
@@ -148,12 +148,12 @@ all-differ-spec =
     part-fingerprint-start
     part-fingerprint-end
     fingerprint-requires
-    slice-read-mark
+    slice-read-owner
     held-before-requires
     same-length
     returns
-    remember-requires
-    slice-write-marks
+    joined-requires
+    slice-write-owners
     add-i
     loop-less
     loop-again

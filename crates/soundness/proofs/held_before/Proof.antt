@@ -20,7 +20,7 @@ fits heads bytes i j m l = name-fits (i + 1) heads bytes j m (omega arith)
 returns : tie.Need-returns
 returns c =
     let s = c .before .before .before in
-    sym (held-by-none (entryAt (s .args .heads .now) (s .args .bytes .now)) (s .args .i) (s .args .mark) (s .pre .1) (c .if1 .taken))
+    sym (held-by-none (entryAt (s .args .heads .now) (s .args .bytes .now)) (s .args .i) (s .args .owner) (s .pre .1) (c .if1 .taken))
 
 mul-head : tie.Need-mul-head
 mul-head c = search needs
@@ -90,12 +90,12 @@ shared-slice-read-other-end c = search needs
 cast-other-end : tie.Need-cast-other-end
 cast-other-end c =
     let s = c .before .before .before .before .before .before in
-    omega (arith, fits (s .args .heads .now) (s .args .bytes .now) (s .args .i) (s .args .mark - 1) (s .pre .0 .1) (omega arith))
+    omega (arith, fits (s .args .heads .now) (s .args .bytes .now) (s .args .i) (s .args .owner - 1) (s .pre .0 .1) (omega arith))
 
 add-other-end : tie.Need-add-other-end
 add-other-end c =
     let s = c .before .before .before .before .before .before in
-    omega (arith, fits (s .args .heads .now) (s .args .bytes .now) (s .args .i) (s .args .mark - 1) (s .pre .0 .1) (omega arith))
+    omega (arith, fits (s .args .heads .now) (s .args .bytes .now) (s .args .i) (s .args .owner - 1) (s .pre .0 .1) (omega arith))
 
 sub-same-bytes : tie.Need-sub-same-bytes
 sub-same-bytes c = search needs
@@ -106,7 +106,7 @@ part-same-bytes-start c = search needs
 part-same-bytes-end : tie.Need-part-same-bytes-end
 part-same-bytes-end c =
     let s = c .before .before .before .before .before .before in
-    omega (arith, s .pre .0 .1 .holds .bytes-hold, fits (s .args .heads .now) (s .args .bytes .now) (s .args .i) (s .args .mark - 1) (s .pre .0 .1) (omega arith))
+    omega (arith, s .pre .0 .1 .holds .bytes-hold, fits (s .args .heads .now) (s .args .bytes .now) (s .args .i) (s .args .owner - 1) (s .pre .0 .1) (omega arith))
 
 sub-same-bytes-2 : tie.Need-sub-same-bytes-2
 sub-same-bytes-2 c = search needs
@@ -127,8 +127,8 @@ returns-3 c =
     let s = c .before .before .before .before .before .before .before .before .before in
     let heads = s .args .heads .now in
     let bytes = s .args .bytes .now in
-    rw (name-part heads bytes (s .args .mark - 1), name-part heads bytes (s .args .i)) at (c .same-bytes .ensures)
-    ∙ held-by-one (entryAt heads bytes) (s .args .i) (s .args .mark) (s .args .mark - 1) (s .pre .1) (omega arith) (omega arith) (omega arith)
+    rw (name-part heads bytes (s .args .owner - 1), name-part heads bytes (s .args .i)) at (c .same-bytes .ensures)
+    ∙ held-by-one (entryAt heads bytes) (s .args .i) (s .args .owner) (s .args .owner - 1) (s .pre .1) (omega arith) (omega arith) (omega arith)
 
 pub held-before-spec : {M : Type 1} → statement M
 held-before-spec =
