@@ -3,6 +3,7 @@
 --     opened           the local array is its numbers, and what the heads own stands by itself
 --     calls-core, calls-core-shr     the core is called on the numbers, lent as `&mut` or as `&`: the others' tokens and what they own go in, and what says their last values comes back, with the result
 --     exits, exits-shr what a call has in the end is what its contract asks for
+--     exits-number     the same where the call makes its answer of the number that the core gave
 --     through          a call that is walked so meets its contract
 pub use mathlib.Core.Path.{_≡_, refl, ap}
 use mathlib.Core.Path.{_∙_}
@@ -66,7 +67,11 @@ pub use prog.Routine.{Routine}
 unfoldable pub use contract.Running.{givenOf, tables, tablesOf}
 pub use types.Part.{agg, rep, whole, sub, look-in}
 pub use denote.Triple.Table.{entered, cited}
+use denote.Struct.Laws as LL
+use Rattle.server.proofs.Answer as O
+use Rattle.server.proofs.Answer.Laws as O′
 use Rattle.nt2.specs.declared.Head.{Head}
+use Rattle.nt2.specs.Answers.{sentAnswer}
 use Rattle.nt2.proofs.Head as T
 use Rattle.nt2.proofs.HeadLaws.{zeros, zeros-is}
 use Rattle.nt2.proofs.Lend.{Parts, lend-cells, unlend-cells, share-cells, unshare-cells, filled}
@@ -207,6 +212,22 @@ module _ {M : Type 1} (𝓤 : URA M) (H : Heap 𝓤) (A : Atoms 𝓤) (W : Given
   exits-shr so =
       qed W (SharedI (named 0) κ γ b o (length hs) hs ∷ ‵ (flft κ q) ∷ raw toks ∷ ‵ (fsep lasts result) ∷ []) ∵ says ! so $ drop ! $ join ! $ frame ! $
       fsplit ! $ nothing ! $ move ! (0 ∷ 1 ∷ []) $ fjoin ! $ frame ! $ done !
+
+-- ---- an answer that is made of its number
+module _ {M : Type 1} (𝓤 : URA M) (H : Heap 𝓤) (A : Atoms 𝓤) (W : Given 𝓤 H A) where
+  number-is : (r : ℕ) (w : Val) → Is u8 r (w ∷ []) → Is O.the-row (sentAnswer r 0) (O′.lowered (sentAnswer r 0) ∷ [])
+  number-is r w is = LL.owes O.the-type O′.the-laws (sentAnswer r 0) ((refl, is .1), ((refl, lit< tt), ((refl, lit< tt), ((refl, lit< tt), tt))))
+
+  pub number-typed : (r : ℕ) (w : Val) → Is u8 r (w ∷ []) → Holds (hasTy O′.mir (O′.lowered (sentAnswer r 0))) × WT (O′.lowered (sentAnswer r 0))
+  number-typed r w is = LL.lawful O.the-type O′.the-laws 𝓤 H A W .typed (sentAnswer r 0) _ (number-is r w is) .0
+
+  module _ (κ : Lft) (q : Share) (γ : GName) (b o : ℕ) (hs : List Head) (toks : SProp 𝓤) (lasts : Fml) (φ : Type 0) where
+    pub exits-number : (r : ℕ) (w : Val) → Is u8 r (w ∷ []) → φ → ent 𝓤 (⋆ 𝓤 H A (SharedI (named 0) κ γ b o (length hs) hs ∷ ‵ (flft κ q) ∷ raw toks ∷ ‵ (fsep lasts (u8 .own r (w ∷ []))) ∷ []))
+        (sep 𝓤 (sep 𝓤 (sep 𝓤 (A .lft κ q) toks) (sep 𝓤 (sem 𝓤 H A (fsep ftrue lasts)) (sem 𝓤 H A (O.the-row .own (sentAnswer r 0) (O′.lowered (sentAnswer r 0) ∷ []))))) (fact 𝓤 φ))
+    exits-number r w is so =
+        qed W (SharedI (named 0) κ γ b o (length hs) hs ∷ ‵ (flft κ q) ∷ raw toks ∷ ‵ (fsep lasts (u8 .own r (w ∷ []))) ∷ []) ∵ move ! (3 ∷ []) $ fsplit ! $ move ! (1 ∷ []) $ drop ! $
+        owned ! O.the-row (Is O.the-row) (LL.makes O.the-type O′.the-plain 𝓤 H A) (sentAnswer r 0) _ (number-is r w is) $ move ! (1 ∷ 0 ∷ []) $ fjoin ! $ move ! (1 ∷ 2 ∷ 3 ∷ 0 ∷ []) $
+        by ! (exits-shr 𝓤 H A W κ q γ b o hs toks lasts (O.the-row .own (sentAnswer r 0) (O′.lowered (sentAnswer r 0) ∷ [])) φ so)
 
 -- ---- the parameters after the heads: what they own, and their last values
 abbrev pub othersOwn : {n : ℕ} (ss : List (Slot n)) (κs : Lfts n) → Denots (typesAt ss κs) → Valss (typesAt ss κs) → Fml

@@ -1,5 +1,6 @@
 pub mod TakenLaws
 pub mod PartLaws
+pub mod NumberLaws
 pub mod HeadLaws
 pub mod Walk
 pub mod Again

@@ -18,7 +18,7 @@ ghost use Rattle.server.specs.Answers.{serverMemory, resultOf, startOf};
 ghost use Rattle.client.specs.Copy.{copyMessage, copyFreshStart};
 ghost use Rattle.client.specs.Answers.{resultOf as copyResultOf};
 ghost use Rattle.nt2.specs.Heads.{lesser, withHead, headAt, loaded, stored, flatHeads};
-ghost use Rattle.nt2.specs.Answers.{scalarAnswer, fieldsOf, encodedAnswer, copyStartOf};
+ghost use Rattle.nt2.specs.Answers.{sentAnswer, scalarAnswer, fieldsOf, encodedAnswer, copyStartOf};
 
 // One entry head.
 #[repr(C)]
@@ -279,12 +279,13 @@ fn store(flat: &[u16], heads: &mut [Head])
 
 // ---- each call on the numbers of n heads
 
-fn fresh_flat(flat: &[u16], n: usize, bytes: &[u8], count: &mut u16, marks: &mut [u8]) -> Answer
+fn fresh_flat(flat: &[u16], n: usize, bytes: &[u8], count: &mut u16, marks: &mut [u8]) -> u8
     requires { ⌜ n * 4 ≤ length (now flat) ⌝ }
-    ensures { λ r. ⌜ (r ≡ startOf (freshStart maxEntries (serverMemory (take (n * 4) (now (flat .entry))) (now (bytes .entry)) (now (count .entry)) (now (marks .entry))))) × (serverMemory (take (n * 4) (now (flat .entry))) (now (bytes .entry)) (now (count .exit)) (now (marks .exit)) ≡ freshStart maxEntries (serverMemory (take (n * 4) (now (flat .entry))) (now (bytes .entry)) (now (count .entry)) (now (marks .entry))) .memory) ⌝ }
+    ensures { λ r. ⌜ (sentAnswer r 0 ≡ startOf (freshStart maxEntries (serverMemory (take (n * 4) (now (flat .entry))) (now (bytes .entry)) (now (count .entry)) (now (marks .entry))))) × (serverMemory (take (n * 4) (now (flat .entry))) (now (bytes .entry)) (now (count .exit)) (now (marks .exit)) ≡ freshStart maxEntries (serverMemory (take (n * 4) (now (flat .entry))) (now (bytes .entry)) (now (count .entry)) (now (marks .entry))) .memory) ⌝ }
 {
     let end = n * 4;
-    server::fresh(&flat[0..end], bytes, count, marks)
+    let answer = server::fresh(&flat[0..end], bytes, count, marks);
+    answer.number
 }
 
 fn open_flat(
@@ -294,12 +295,13 @@ fn open_flat(
     count: &mut u16,
     marks: &mut [u8],
     connection: usize,
-) -> Answer
+) -> u8
     requires { ⌜ n * 4 ≤ length (now flat) ⌝ }
-    ensures { λ r. ⌜ resultOf r (take (n * 4) (now (flat .entry))) (now (bytes .entry)) (now (count .exit)) (now (marks .exit)) [] ≡ callStep maxEntries (serverMemory (take (n * 4) (now (flat .entry))) (now (bytes .entry)) (now (count .entry)) (now (marks .entry))) (record { call = openConnection connection; output = [] }) ⌝ }
+    ensures { λ r. ⌜ resultOf (sentAnswer r 0) (take (n * 4) (now (flat .entry))) (now (bytes .entry)) (now (count .exit)) (now (marks .exit)) [] ≡ callStep maxEntries (serverMemory (take (n * 4) (now (flat .entry))) (now (bytes .entry)) (now (count .entry)) (now (marks .entry))) (record { call = openConnection connection; output = [] }) ⌝ }
 {
     let end = n * 4;
-    server::open(&flat[0..end], bytes, *count, marks, connection)
+    let answer = server::open(&flat[0..end], bytes, *count, marks, connection);
+    answer.number
 }
 
 fn leave_flat(
@@ -309,12 +311,13 @@ fn leave_flat(
     count: &mut u16,
     marks: &mut [u8],
     connection: usize,
-) -> Answer
+) -> u8
     requires { ⌜ n * 4 ≤ length (now flat) ⌝ }
-    ensures { λ r. ⌜ resultOf r (take (n * 4) (now (flat .entry))) (now (bytes .entry)) (now (count .exit)) (now (marks .exit)) [] ≡ callStep maxEntries (serverMemory (take (n * 4) (now (flat .entry))) (now (bytes .entry)) (now (count .entry)) (now (marks .entry))) (record { call = leave connection; output = [] }) ⌝ }
+    ensures { λ r. ⌜ resultOf (sentAnswer r 0) (take (n * 4) (now (flat .entry))) (now (bytes .entry)) (now (count .exit)) (now (marks .exit)) [] ≡ callStep maxEntries (serverMemory (take (n * 4) (now (flat .entry))) (now (bytes .entry)) (now (count .entry)) (now (marks .entry))) (record { call = leave connection; output = [] }) ⌝ }
 {
     let end = n * 4;
-    server::leave_connection(&flat[0..end], bytes, *count, marks, connection)
+    let answer = server::leave_connection(&flat[0..end], bytes, *count, marks, connection);
+    answer.number
 }
 
 fn receive_flat(
@@ -426,18 +429,12 @@ fn read_flat(flat: &[u16], n: usize, bytes: &[u8], count: &mut u16, id: u16) -> 
     answer_scalar(scalar)
 }
 
-fn copy_fresh_flat(flat: &[u16], n: usize, bytes: &[u8], count: &mut u16) -> Answer
+fn copy_fresh_flat(flat: &[u16], n: usize, bytes: &[u8], count: &mut u16) -> u8
     requires { ⌜ n * 4 ≤ length (now flat) ⌝ }
-    ensures { λ r. ⌜ (r ≡ copyStartOf (copyFreshStart maxEntries (tableMemory (take (n * 4) (now (flat .entry))) (now (bytes .entry)) (now (count .entry))))) × (tableMemory (take (n * 4) (now (flat .entry))) (now (bytes .entry)) (now (count .exit)) ≡ copyFreshStart maxEntries (tableMemory (take (n * 4) (now (flat .entry))) (now (bytes .entry)) (now (count .entry))) .memory) ⌝ }
+    ensures { λ r. ⌜ (sentAnswer r 0 ≡ copyStartOf (copyFreshStart maxEntries (tableMemory (take (n * 4) (now (flat .entry))) (now (bytes .entry)) (now (count .entry))))) × (tableMemory (take (n * 4) (now (flat .entry))) (now (bytes .entry)) (now (count .exit)) ≡ copyFreshStart maxEntries (tableMemory (take (n * 4) (now (flat .entry))) (now (bytes .entry)) (now (count .entry))) .memory) ⌝ }
 {
     let end = n * 4;
-    let number = client::copy_fresh(&flat[0..end], bytes, count);
-    Answer {
-        number: number,
-        recipients: 0,
-        taken: 0,
-        sent: 0,
-    }
+    client::copy_fresh(&flat[0..end], bytes, count)
 }
 
 fn copy_receive_flat(
@@ -467,7 +464,13 @@ pub extern "C" fn nt2_fresh(
 {
     let mut flat = [0u16; table::HEADS_SIZE];
     let n = load(heads, &mut flat);
-    fresh_flat(&flat, n, bytes, count, marks)
+    let number = fresh_flat(&flat, n, bytes, count, marks);
+    Answer {
+        number: number,
+        recipients: 0,
+        taken: 0,
+        sent: 0,
+    }
 }
 
 #[no_mangle]
@@ -482,7 +485,13 @@ pub extern "C" fn nt2_open(
 {
     let mut flat = [0u16; table::HEADS_SIZE];
     let n = load(heads, &mut flat);
-    open_flat(&flat, n, bytes, count, marks, connection)
+    let number = open_flat(&flat, n, bytes, count, marks, connection);
+    Answer {
+        number: number,
+        recipients: 0,
+        taken: 0,
+        sent: 0,
+    }
 }
 
 #[no_mangle]
@@ -497,7 +506,13 @@ pub extern "C" fn nt2_leave(
 {
     let mut flat = [0u16; table::HEADS_SIZE];
     let n = load(heads, &mut flat);
-    leave_flat(&flat, n, bytes, count, marks, connection)
+    let number = leave_flat(&flat, n, bytes, count, marks, connection);
+    Answer {
+        number: number,
+        recipients: 0,
+        taken: 0,
+        sent: 0,
+    }
 }
 
 #[no_mangle]
@@ -583,7 +598,13 @@ pub extern "C" fn nt2_copy_fresh(heads: &[Head], bytes: &[u8], count: &mut u16) 
 {
     let mut flat = [0u16; table::HEADS_SIZE];
     let n = load(heads, &mut flat);
-    copy_fresh_flat(&flat, n, bytes, count)
+    let number = copy_fresh_flat(&flat, n, bytes, count);
+    Answer {
+        number: number,
+        recipients: 0,
+        taken: 0,
+        sent: 0,
+    }
 }
 
 #[no_mangle]

@@ -23,7 +23,9 @@ same-length : tie.Need-same-length
 same-length c = search needs
 
 returns : tie.Need-returns
-returns c = rw (part-length (c .before .before .before .before .before .before .before .before .before .args .n * 4)) at (c .before .before .fresh .ensures)
+returns c =
+    let e = rw (part-length (c .before .before .before .before .before .before .before .before .before .args .n * 4)) at (c .before .before .fresh .ensures) in
+    (rw (e .0), e .1)
 
 pub fresh-flat-spec : {M : Type 1} → statement M
 fresh-flat-spec =

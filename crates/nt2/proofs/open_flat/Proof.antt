@@ -1,5 +1,6 @@
 use Prim.Native.Nat.{_*_}
 use Rattle.nt2.proofs.PartLaws.{part-length}
+use Rattle.nt2.proofs.NumberLaws.{opens, number-answer}
 use borrow.Author.Needs.{needs}
 use Rattle.nt2.proofs.open_flat.Statement.{statement}
 use Rattle.nt2.proofs.open_flat.Tie as tie
@@ -23,7 +24,9 @@ same-length : tie.Need-same-length
 same-length c = search needs
 
 returns : tie.Need-returns
-returns c = rw (part-length (c .before .before .before .before .before .before .before .before .before .args .n * 4)) at (c .before .before .«open» .ensures)
+returns c =
+    number-answer _ _ _ opens _ _ _ _ _ _
+    (rw (part-length (c .before .before .before .before .before .before .before .before .before .args .n * 4)) at (c .before .before .«open» .ensures))
 
 pub open-flat-spec : {M : Type 1} → statement M
 open-flat-spec =
