@@ -1,12 +1,12 @@
 -- What the walks of the exported calls share. Each call's parameters are the heads and then others, and its core's are the numbers, how many heads they are of, and then the same others:
 -- so what a call is given with the others (their tokens, and what they own) goes to the core as it stands, and what the core says of their last values is what the call says of them.
 --     opened           the local array is its numbers, and what the heads own stands by itself
---     calls-core, calls-core-shr     the core is called on the numbers, lent as `&mut` or as `&`: the others' tokens and what they own go in, and what says their last values comes back, with the result
+--     calls-core, calls-core-shr     the core is called on the numbers, lent as `&mut` or as `&`: the others' tokens and what they own go in, and what says their last values comes back, with the result, whose machine value `calls-core` names
 --     exits, exits-shr what a call has in the end is what its contract asks for
 --     exits-number     the same where the call makes its answer of the number that the core gave
 --     through          a call that is walked so meets its contract
 pub use mathlib.Core.Path.{_≡_, refl, ap}
-use mathlib.Core.Path.{_∙_}
+use mathlib.Core.Path.{sym, _∙_, subst}
 pub use Prim.Native.Nat.{ℕ, _*_}
 use Prim.Native.Nat.{_≤_, _<_, _^_}
 use native.Mathlib.Omega.{arith}
@@ -40,7 +40,7 @@ use sound.WpLaws.{FmC}
 use denote.Exit.{Kept, left}
 use denote.RattleType.{RattleType, Denots, Valss, owns, flat}
 pub use denote.Laws.{Is, Spells, valss}
-use denote.Laws.{Ises, Are, Tellss, shows}
+use denote.Laws.{Ises, Are, Tells, Tellss, shows}
 pub use denote.Plain.{uint-vals, uint-tells, uint-lawful, nothing-lawful}
 use denote.Plain.{uint-makes}
 pub use denote.Builtin.{u8, u16, usize}
@@ -163,13 +163,13 @@ module _ {M : Type 1} {𝓤 : URA M} {H : Heap 𝓤} {A : Atoms 𝓤} {K : Type 
       rewrite t 0 (λ (u : List ℕ). FlatI l u) zeros-is refl $ move t (0 ∷ 1 ∷ 3 ∷ 4 ∷ 2 ∷ []) $ s)
 
   module _ {X Y : Item 𝓤} {E : Env 𝓤 H} {C : Calls 𝓤 H} {Λ : Loops 𝓤 H} {p : Post 𝓤 H} {f : Name} {xs : List Operand} {d : Place} {rest : Body} where
-    pub calls-core : (t : K) → FmC 𝓤 H (W .laws) C → (Q : Contract 𝓤) → Triple 𝓤 (C f) Q → (toks : SProp 𝓤) (others : Fml) (R : RattleType) (Ws : Type 0) (lasts : Ws → Fml) (Φ : R .Denot → List ℕ → Ws → Type 0)
+    pub calls-core : (t : K) → FmC 𝓤 H (W .laws) C → (Q : Contract 𝓤) → Triple 𝓤 (C f) Q → (toks : SProp 𝓤) (others : Fml) (R : RattleType) (val : R .Denot → Val) → Tells R (Is R) (λ r. val r ∷ []) → (Ws : Type 0) (lasts : Ws → Fml) (Φ : R .Denot → List ℕ → Ws → Type 0)
         → (l n : ℕ) (ys : List ℕ) (len : length ys ≡ 256) → n ≤ 64 → (g : ℕ → GName → Q .Ghost) → ((ν : ℕ) (δ : GName) → ent 𝓤 (Asked 𝓤 H A toks others R Ws lasts l n ys ν δ) (Q .pre (g ν δ)))
         → ((ν : ℕ) (δ : GName) (w : Val) → ent 𝓤 (Q .post (g ν δ) w) (Gave 𝓤 H A toks others R Ws lasts l n ys Φ ν δ w))
         → ((ν : ℕ) (δ : GName) → Opds K W (raw (Q .pre (g ν δ)) ∷ ‵ (flent (ν ∷ []) (Held u16 (length ys) l 0 δ)) ∷ X ∷ Y ∷ Γ) E xs (Q .args (g ν δ)))
-        → ((r : R .Denot) (zs : List ℕ) (ws : Ws) (w : Val) → Is R r (w ∷ []) → length zs ≡ 256 → Φ r zs ws → Seq K W (FlatI l zs ∷ X ∷ Y ∷ raw toks ∷ ‵ (fsep (lasts ws) (R .own r (w ∷ []))) ∷ Γ) (lands C Λ E d w rest p))
+        → ((r : R .Denot) (zs : List ℕ) (ws : Ws) → Is R r (val r ∷ []) → length zs ≡ 256 → Φ r zs ws → Seq K W (FlatI l zs ∷ X ∷ Y ∷ raw toks ∷ ‵ (fsep (lasts ws) (R .own r (val r ∷ []))) ∷ Γ) (lands C Λ E d (val r) rest p))
         → Seq K W (FlatI l ys ∷ X ∷ Y ∷ raw toks ∷ ‵ others ∷ Γ) (runs C Λ E (seq (call f xs d) rest) p)
-    calls-core t fm Q known toks others R Ws lasts Φ l n ys len small g asked gave′ ops k =
+    calls-core t fm Q known toks others R val tells Ws lasts Φ l n ys len small g asked gave′ ops k =
         lend-cells t tt u16 l 0 ys 256 len (named 0) room-256 (λ ν δ. move t (0 ∷ 5 ∷ 1 ∷ 6 ∷ []) $ group t 4 $
         use1 W (raw (Q .pre (g ν δ))) (via 𝓤 _ (asks 𝓤 H A toks others R Ws lasts l n ys W (omega arith) (omega arith) ν δ) (asked ν δ)) $
         calls-at t fm Q known (g ν δ) (ops ν δ) (λ w.
@@ -178,7 +178,9 @@ module _ {M : Type 1} {𝓤 : URA M} {H : Heap 𝓤} {A : Atoms 𝓤} {K : Type 
         await t tt $ pick t (λ r. split t $ move t (1 ∷ []) $ pick t (λ zs. split t $ move t (1 ∷ []) $ heard t (Φ r (zs .0) (zs .1 .1)) (λ e. fsplit t $ fsplit t $ move t (1 ∷ []) $ feqL t (λ z.
         -- [finally; the others' last values; the tokens and the result; the lender's part; X; Y; …]
         move t (1 ∷ []) $ fsplit t $ drop t $ move t (2 ∷ []) $ split t $ split t $ move t (0 ∷ 5 ∷ 4 ∷ []) $ unlend-cells t tt u16 l 0 ys 256 len (named 0) room-256 ν δ (zs .0) $
-        move t (2 ∷ []) $ peeks t R (Is R) (shows 𝓤 H A R) r (w ∷ []) (λ is. move t (3 ∷ 0 ∷ []) $ fjoin t $ move t (1 ∷ 3 ∷ 4 ∷ 2 ∷ 0 ∷ []) $ k r (zs .0) (zs .1 .1) w is (z ∙ len) e)))))))
+        move t (2 ∷ []) $ peeks t R (Is R) (shows 𝓤 H A R) r (w ∷ []) (λ is. move t (3 ∷ 0 ∷ []) $ fjoin t $ move t (1 ∷ 3 ∷ 4 ∷ 2 ∷ 0 ∷ []) $
+        subst (λ (u : Val). Seq K W (FlatI l (zs .0) ∷ X ∷ Y ∷ raw toks ∷ ‵ (fsep (lasts (zs .1 .1)) (R .own r (u ∷ []))) ∷ Γ) (lands C Λ E d u rest p)) (sym (ap only (tells r (w ∷ []) is)))
+        (k r (zs .0) (zs .1 .1) (subst (Is R r) (tells r (w ∷ []) is) is) (z ∙ len) e))))))))
 
     pub calls-core-shr : (t : K) → FmC 𝓤 H (W .laws) C → (Q : Contract 𝓤) → Triple 𝓤 (C f) Q → (toks : SProp 𝓤) (others : Fml) (R : RattleType) (Ws : Type 0) (lasts : Ws → Fml) (Φ : R .Denot → Ws → Type 0)
         → (l n : ℕ) (ys : List ℕ) (len : length ys ≡ 256) → n ≤ 64 → (g : ℕ → GName → Q .Ghost) → ((ν : ℕ) (δ : GName) → ent 𝓤 (AskedShr 𝓤 H A toks others R Ws lasts l n ys ν δ) (Q .pre (g ν δ)))

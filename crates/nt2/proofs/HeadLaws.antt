@@ -4,14 +4,15 @@ use Prim.Native.Nat.{ℕ, zero, suc, _+_, _*_, _<_, _≤_}
 use native.Mathlib.Nat.{not-suc-le-zero, eq-or-lt-of-le, le-of-suc-le-suc}
 use native.Mathlib.Numerals.{add-one}
 use native.Mathlib.Omega.{arith}
-use mathlib.Core.Logic.{_⊎_, inl, inr}
+use mathlib.Core.Logic.{_≢_, _⊎_, inl, inr}
 use mathlib.Core.List.{List, [], _∷_}
 use lib.ListN.{length, getD, set, take, drop, replicate, length-set, length-take, length-drop, length-replicate}
 use lib.Seq.{getD-set-same, getD-set-other, getD-take, getD-drop, ext-getD}
-use borrow.Author.Tests.{lt-ltb, le-ltb}
+use borrow.Author.Tests.{lt-ltb, le-ltb, eqb-false}
 use Rattle.field.specs.Choice.{pick}
+use Rattle.field.proofs.ChoiceLaws.{by-test}
 use Rattle.nt2.specs.declared.Head.{Head}
-use Rattle.nt2.specs.Heads.{numbers, flatHeads, lesser, noHead, withHead, headAt, loaded, stored}
+use Rattle.nt2.specs.Heads.{numbers, flatHeads, lesser, changed, noHead, withHead, headAt, loaded, stored}
 
 pub lesser-below : (n : ℕ) → n < 64 → lesser n ≡ n
 unfolding lesser pick
@@ -146,6 +147,15 @@ lesser-small n = elim (order n 64) [ inl l ↦ (omega (arith, lesser-below n l))
 pub lesser-within : (n : ℕ) → lesser n ≤ n
 lesser-within n = elim (order n 64) [ inl l ↦ (omega (arith, lesser-below n l)) | inr l ↦ (omega (arith, lesser-above n l)) ]
 
+-- the heads that a call may have changed
+pub changed-small : (number n : ℕ) → changed number n ≤ 64
+unfolding changed
+changed-small number n = by-test (λ (k : ℕ). k ≤ 64) _ _ _ (λ _. lesser-small n) (λ _. omega arith)
+
+pub changed-within : (number n : ℕ) → changed number n ≤ n
+unfolding changed
+changed-within number n = by-test (λ (k : ℕ). k ≤ n) _ _ _ (λ _. lesser-within n) (λ _. omega arith)
+
 -- ---- the local numbers
 unfoldable pub zeros : List ℕ
 zeros = replicate 256 0
@@ -232,12 +242,16 @@ module _ (hs : List Head) where
       (λ i l. taken-at held (flatOf hs) i l ∙ loaded-at held hs zeros (omega (arith, length-zeros, lesser-small (length hs))) i l ∙ sym (flatHeads-at hs i l))
 
   module _ (f : List ℕ) (len : length f ≡ 256) where
-    -- storing
-    pub store-flat : flatHeads (stored held f hs) ≡ take (held * 4) f
-    store-flat = same-heads held (flatHeads (stored held f hs)) (take (held * 4) f) (length-flatHeads (stored held f hs) (length-stored held f hs)) (length-in-use f len)
+    store-all : flatHeads (stored held f hs) ≡ take (held * 4) f
+    store-all = same-heads held (flatHeads (stored held f hs)) (take (held * 4) f) (length-flatHeads (stored held f hs) (length-stored held f hs)) (length-in-use f len)
         (λ i l. flatHeads-at (stored held f hs) i l ∙ stored-at held f hs (lesser-within (length hs)) i l ∙ sym (taken-at held f i l))
 
+    -- storing what a call left, where it left the numbers as they were unless it is done
+    pub store-flat : (number : ℕ) → (number ≢ 0 → take (held * 4) f ≡ take (held * 4) (flatOf hs)) → flatHeads (stored (changed number (length hs)) f hs) ≡ take (held * 4) f
+    unfolding changed
+    store-flat number kept = by-test (λ (k : ℕ). flatHeads (stored k f hs) ≡ take (held * 4) f) _ _ _ (λ _. store-all) (λ ne. rw (← (stored-none f hs)) (sym (kept (eqb-false number 0 ne) ∙ load-flat)))
+
   -- a head past the first 64 is as it was
-  pub store-rest : (f : List ℕ) → drop 64 (stored held f hs) ≡ drop 64 hs
-  store-rest f = ext-getD noHead (drop 64 (stored held f hs)) (drop 64 hs) (simp (length-drop, length-stored))
-      (λ i l. getD-drop 64 (stored held f hs) i noHead ∙ stored-past held f hs (64 + i) (omega (arith, lesser-small (length hs))) ∙ sym (getD-drop 64 hs i noHead))
+  pub store-rest : (f : List ℕ) (k : ℕ) → k ≤ 64 → drop 64 (stored k f hs) ≡ drop 64 hs
+  store-rest f k small = ext-getD noHead (drop 64 (stored k f hs)) (drop 64 hs) (simp (length-drop, length-stored))
+      (λ i l. getD-drop 64 (stored k f hs) i noHead ∙ stored-past k f hs (64 + i) (omega arith) ∙ sym (getD-drop 64 hs i noHead))

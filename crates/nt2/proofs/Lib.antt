@@ -1,6 +1,7 @@
 pub mod TakenLaws
 pub mod PartLaws
 pub mod NumberLaws
+pub mod UnchangedLaws
 pub mod HeadLaws
 pub mod Walk
 pub mod Again

@@ -17,7 +17,7 @@ ghost use Rattle.server.specs.Step.{callStep, freshStart, readScalar};
 ghost use Rattle.server.specs.Answers.{serverMemory, resultOf, startOf};
 ghost use Rattle.client.specs.Copy.{copyMessage, copyFreshStart};
 ghost use Rattle.client.specs.Answers.{resultOf as copyResultOf};
-ghost use Rattle.nt2.specs.Heads.{lesser, withHead, headAt, loaded, stored, flatHeads};
+ghost use Rattle.nt2.specs.Heads.{lesser, changed, withHead, headAt, loaded, stored, flatHeads};
 ghost use Rattle.nt2.specs.Answers.{sentAnswer, scalarAnswer, fieldsOf, encodedAnswer, copyStartOf};
 
 // One entry head.
@@ -223,6 +223,16 @@ fn used(n: usize) -> usize
     }
 }
 
+// How many of n heads a call may have changed: none unless it is done.
+fn changed(number: u8, n: usize) -> usize
+    ensures { λ r. ⌜ r ≡ changed number n ⌝ }
+{
+    if number != DONE {
+        return 0;
+    }
+    used(n)
+}
+
 // One head becomes four numbers.
 fn put_head(flat: &mut [u16], i: usize, h: Head)
     requires { ⌜ i * 4 + 3 < length (now flat) ⌝ }
@@ -264,12 +274,12 @@ fn load(heads: &[Head], flat: &mut [u16]) -> usize
     n
 }
 
-// The numbers become the heads of a table again, or all where there are fewer.
-fn store(flat: &[u16], heads: &mut [Head])
+// The numbers become the heads of a table again, or all where there are fewer, once a call is done.
+fn store(number: u8, flat: &[u16], heads: &mut [Head])
     requires { ⌜ headSize * maxEntries ≤ length (now flat) ⌝ }
-    ensures { λ _. ⌜ now (heads .exit) ≡ stored (lesser (length (now (heads .entry)))) (now (flat .entry)) (now (heads .entry)) ⌝ }
+    ensures { λ _. ⌜ now (heads .exit) ≡ stored (changed number (length (now (heads .entry)))) (now (flat .entry)) (now (heads .entry)) ⌝ }
 {
-    let n = used(heads.len());
+    let n = changed(number, heads.len());
     let mut i: usize = 0;
     while i < n {
         heads[i] = head_at(flat, i);
@@ -530,7 +540,7 @@ pub extern "C" fn nt2_receive(
     let mut flat = [0u16; table::HEADS_SIZE];
     let n = load(heads, &mut flat);
     let r = receive_flat(&mut flat, n, bytes, count, marks, connection, message, out);
-    store(&flat, heads);
+    store(r.number, &flat, heads);
     r
 }
 
@@ -560,7 +570,7 @@ pub extern "C" fn nt2_create(
         value,
         out,
     );
-    store(&flat, heads);
+    store(r.number, &flat, heads);
     r
 }
 
@@ -579,7 +589,7 @@ pub extern "C" fn nt2_write(
     let mut flat = [0u16; table::HEADS_SIZE];
     let n = load(heads, &mut flat);
     let r = write_flat(&mut flat, n, bytes, count, marks, id, value, out);
-    store(&flat, heads);
+    store(r.number, &flat, heads);
     r
 }
 
@@ -619,6 +629,6 @@ pub extern "C" fn nt2_copy_receive(
     let mut flat = [0u16; table::HEADS_SIZE];
     let n = load(heads, &mut flat);
     let r = copy_receive_flat(&mut flat, n, bytes, count, message);
-    store(&flat, heads);
+    store(r.number, &flat, heads);
     r
 }
