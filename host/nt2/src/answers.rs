@@ -154,25 +154,23 @@ pub enum Scalar {
 /// A server's message that was taken by a copy.
 #[derive(Clone, Copy, Debug, PartialEq, Eq)]
 pub enum Copied {
-    Stored {
-        taken: usize,
-    },
-    Ignored {
-        taken: usize,
-    },
+    /// An assignment or update of the entry with this ID.
+    Stored { taken: usize, id: u16 },
+    /// Keep alive.
+    Ignored { taken: usize },
+    /// All entries that the server held at the hello were sent before.
+    HelloComplete { taken: usize },
     /// The server does not speak the client's revision, but this one.
-    Unsupported {
-        taken: usize,
-        revision: u16,
-    },
+    Unsupported { taken: usize, revision: u16 },
 }
 
 impl Copied {
     /// The message's own length.
     pub fn taken(self) -> usize {
         match self {
-            Copied::Stored { taken }
+            Copied::Stored { taken, .. }
             | Copied::Ignored { taken }
+            | Copied::HelloComplete { taken }
             | Copied::Unsupported { taken, .. } => taken,
         }
     }

@@ -26,14 +26,18 @@ impl CopyTable {
 
     /// Takes the first message of a server's bytes.
     pub fn receive(&mut self, message: &[u8]) -> Result<Copied, Refusal> {
+        let next = self.memory.next_id();
         let answer = lent::copy_receive(self.memory.lend(), message);
-        let taken = answer.taken;
-        Ok(if is_done(answer.number)? {
-            Copied::Stored { taken }
-        } else if message.first() == Some(&0x02) {
-            Copied::Unsupported { taken, revision: answer.revision }
-        } else {
-            Copied::Ignored { taken }
+        let (taken, revision) = (answer.taken, answer.revision);
+        let stored = is_done(answer.number)?;
+        Ok(match *message {
+            [0x11, high, low, ..] if stored => {
+                Copied::Stored { taken, id: u16::from_be_bytes([high, low]) }
+            }
+            _ if stored => Copied::Stored { taken, id: next },
+            [0x02, ..] => Copied::Unsupported { taken, revision },
+            [0x03, ..] => Copied::HelloComplete { taken },
+            _ => Copied::Ignored { taken },
         })
     }
 
@@ -58,6 +62,16 @@ impl CopyTable {
 
     pub fn entry(&self, id: u16) -> Option<Entry<'_>> {
         self.memory.entry(id)
+    }
+
+    /// All entries with their IDs, in rising order.
+    pub fn entries(&self) -> impl Iterator<Item = (u16, Entry<'_>)> {
+        (0..self.memory.next_id()).filter_map(|id| Some((id, self.entry(id)?)))
+    }
+
+    /// The ID of the entry with this name.
+    pub fn find(&self, name: &[u8]) -> Option<u16> {
+        self.entries().find(|(_, entry)| entry.name == name).map(|(id, _)| id)
     }
 }
 

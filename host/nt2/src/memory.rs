@@ -38,6 +38,11 @@ impl Memory {
         usize::from(self.count)
     }
 
+    /// The ID that the next new entry has.
+    pub fn next_id(&self) -> u16 {
+        self.count
+    }
+
     pub fn read(&self, id: u16) -> Result<Scalar, Refusal> {
         let scalar = lent::read(&self.heads, &self.bytes, &self.count, id);
         is_done(scalar.number)?;

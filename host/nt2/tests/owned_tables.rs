@@ -67,6 +67,22 @@ fn copy_follows_the_server() {
 }
 
 #[test]
+fn copy_says_what_it_took() {
+    let mut copy = CopyTable::new();
+    let assignments = b"\x10\x00\x01a\x00\x00\x00\x00\x01\x00\x10\x00\x01b\x00\x00\x01\x00\x01\x00";
+    assert_eq!(copy.receive(assignments), Ok(Copied::Stored { taken: 10, id: 0 }));
+    assert_eq!(copy.receive(&assignments[10..]), Ok(Copied::Stored { taken: 10, id: 1 }));
+    assert_eq!(copy.receive(&[0x03, 0x00]), Ok(Copied::HelloComplete { taken: 1 }));
+    assert_eq!(copy.receive(&[0x00]), Ok(Copied::Ignored { taken: 1 }));
+    let update = [0x11, 0x00, 0x00, 0x00, 0x02, 0x01];
+    assert_eq!(copy.receive(&update), Ok(Copied::Stored { taken: 6, id: 0 }));
+    assert_eq!(copy.receive(&update[..5]), Err(Refusal::Incomplete));
+    let held: Vec<_> = copy.entries().map(|(id, entry)| (id, entry.name, entry.number)).collect();
+    assert_eq!(held, [(0, &b"a"[..], 2), (1, &b"b"[..], 1)]);
+    assert_eq!((copy.find(b"b"), copy.find(b"c")), (Some(1), None));
+}
+
+#[test]
 fn refusals_by_name() {
     let mut out = [0; 400];
     let (mut table, mut copy) = (ServerTable::new(), CopyTable::new());
