@@ -1,0 +1,30 @@
+//! The table over TCP: the server as a library, for the program and its tests.
+
+#![forbid(unsafe_code)]
+
+pub mod notice;
+pub mod server;
+
+use std::env;
+use std::ffi::OsString;
+use std::fmt::Display;
+use std::io::{self, Write};
+
+/// Where a server listens if nothing else is said.
+pub const DEFAULT_ADDRESS: &str = "127.0.0.1:1735";
+
+/// Bytes read from a stream at once: the longest messages have room, and a client's turn is short.
+const READ_SIZE: usize = 1024;
+
+/// The program's arguments, or the first that is no text.
+pub fn arguments() -> Result<Vec<String>, String> {
+    let text = |argument: OsString| {
+        argument.into_string().map_err(|argument| format!("{argument:?} is not UTF-8"))
+    };
+    env::args_os().skip(1).map(text).collect()
+}
+
+/// Writes a line to standard error, in one piece. If that is closed, nobody wants it.
+pub fn say(line: impl Display) {
+    let _ = io::stderr().write_all(format!("{line}\n").as_bytes());
+}

@@ -1,0 +1,61 @@
+//! What a server says of its connections, one line each.
+
+use nt2::{CONNECTIONS, Refusal};
+use std::fmt;
+use std::io;
+use std::net::SocketAddr;
+
+/// An event that a server reports.
+#[derive(Debug)]
+pub enum Notice {
+    Opened { connection: usize, peer: SocketAddr },
+    Refused { connection: usize, refusal: Refusal },
+    Left { connection: usize, reason: Reason },
+    TurnedAway { peer: SocketAddr },
+    NotAccepted { error: io::Error },
+}
+
+/// Why a connection was closed.
+#[derive(Debug)]
+pub enum Reason {
+    EndOfStream,
+    Refused,
+    OtherRevision,
+    /// More bytes wait for the client than the bound.
+    NotReading,
+    Failed(io::Error),
+    Stopped,
+}
+
+impl fmt::Display for Notice {
+    fn fmt(&self, f: &mut fmt::Formatter<'_>) -> fmt::Result {
+        match self {
+            Notice::Opened { connection, peer } => {
+                write!(f, "connection {connection}: opened by {peer}")
+            }
+            Notice::Refused { connection, refusal } => {
+                write!(f, "connection {connection}: refused with {}, {refusal}", refusal.number())
+            }
+            Notice::Left { connection, reason } => {
+                write!(f, "connection {connection}: left, {reason}")
+            }
+            Notice::TurnedAway { peer } => {
+                write!(f, "{peer} turned away: all {CONNECTIONS} connections are open")
+            }
+            Notice::NotAccepted { error } => write!(f, "a connection was not accepted: {error}"),
+        }
+    }
+}
+
+impl fmt::Display for Reason {
+    fn fmt(&self, f: &mut fmt::Formatter<'_>) -> fmt::Result {
+        match self {
+            Reason::EndOfStream => f.write_str("end of the stream"),
+            Reason::Refused => f.write_str("a message was refused"),
+            Reason::OtherRevision => f.write_str("hello for another revision"),
+            Reason::NotReading => f.write_str("the client does not read what is sent to it"),
+            Reason::Failed(error) => write!(f, "{error}"),
+            Reason::Stopped => f.write_str("the server stops"),
+        }
+    }
+}

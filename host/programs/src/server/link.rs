@@ -1,0 +1,141 @@
+//! One client's stream, with the bytes that wait to be sent.
+
+use crate::READ_SIZE;
+use std::io::{self, ErrorKind, Read, Write};
+use std::mem;
+use std::net::{Shutdown, TcpStream};
+use std::sync::{Condvar, Mutex, MutexGuard, PoisonError};
+use std::time::{Duration, Instant};
+
+/// At most so many bytes wait for a client, beside those that its writer is sending.
+pub const MOST_WAITING: usize = 256 * 1024;
+
+/// A client has this long to take what was sent to it before its connection was closed.
+const LINGER: Duration = Duration::from_secs(2);
+/// A write that cannot go on is tried again so often, to see whether its time is over.
+const WRITE_TRY: Duration = Duration::from_millis(250);
+
+/// A stream that one thread reads and another one writes. The owner of the table never waits for
+/// either.
+pub struct Link {
+    stream: TcpStream,
+    state: Mutex<State>,
+    changed: Condvar,
+}
+
+struct State {
+    waiting: Vec<u8>,
+    reading: bool,
+    /// Set once nothing more is to be sent: the stream is closed then at the latest.
+    deadline: Option<Instant>,
+}
+
+impl Link {
+    pub fn new(stream: TcpStream) -> io::Result<Self> {
+        stream.set_nodelay(true)?;
+        stream.set_write_timeout(Some(WRITE_TRY))?;
+        let state = State { waiting: Vec::new(), reading: true, deadline: None };
+        Ok(Link { stream, state: Mutex::new(state), changed: Condvar::new() })
+    }
+
+    /// Lets bytes wait behind the earlier ones; false where they would be too many.
+    #[must_use]
+    pub fn push(&self, bytes: &[u8]) -> bool {
+        let mut state = self.lock();
+        if state.waiting.len() + bytes.len() > MOST_WAITING {
+            return false;
+        }
+        state.waiting.extend_from_slice(bytes);
+        self.changed.notify_all();
+        true
+    }
+
+    /// Nothing more is to be sent: what waits goes out, and the stream is closed.
+    pub fn finish(&self) {
+        self.lock().deadline = Some(Instant::now() + LINGER);
+        self.changed.notify_all();
+    }
+
+    /// Closes the stream at once. What waits is not sent.
+    pub fn abandon(&self) {
+        let mut state = self.lock();
+        state.waiting.clear();
+        state.deadline = Some(Instant::now());
+        self.changed.notify_all();
+        self.shut(Shutdown::Both);
+    }
+
+    /// The reader: hands over what arrives until the stream ends, or until it is not wanted.
+    pub fn read(&self, mut hand_over: impl FnMut(&[u8]) -> bool) -> io::Result<()> {
+        let mut buffer = [0; READ_SIZE];
+        let ended = loop {
+            match (&self.stream).read(&mut buffer) {
+                Ok(length) if length > 0 && hand_over(&buffer[..length]) => {}
+                Ok(_) => break Ok(()),
+                Err(error) if error.kind() == ErrorKind::Interrupted => {}
+                Err(error) => break Err(error),
+            }
+        };
+        self.lock().reading = false;
+        self.changed.notify_all();
+        ended
+    }
+
+    /// The writer: sends what waits until nothing more is to be sent. The client may then still be
+    /// writing; its bytes are read for a while, since closing before would lose what was sent.
+    pub fn write(&self) {
+        while let Some(batch) = self.next_batch() {
+            if self.send(&batch).is_err() {
+                return self.shut(Shutdown::Both);
+            }
+        }
+        self.shut(Shutdown::Write);
+        self.wait_for_reader();
+        self.shut(Shutdown::Both);
+    }
+
+    /// All that waits, once there is something; none where nothing more is to be sent.
+    fn next_batch(&self) -> Option<Vec<u8>> {
+        let idle = |state: &mut State| state.waiting.is_empty() && state.deadline.is_none();
+        let waited = self.changed.wait_while(self.lock(), idle);
+        let mut state = waited.unwrap_or_else(PoisonError::into_inner);
+        Some(mem::take(&mut state.waiting)).filter(|batch| !batch.is_empty())
+    }
+
+    fn send(&self, mut rest: &[u8]) -> io::Result<()> {
+        while !rest.is_empty() {
+            if self.time_left() == Some(Duration::ZERO) {
+                return Err(ErrorKind::TimedOut.into());
+            }
+            match (&self.stream).write(rest) {
+                Ok(0) => return Err(ErrorKind::WriteZero.into()),
+                Ok(length) => rest = &rest[length..],
+                Err(error) => match error.kind() {
+                    ErrorKind::WouldBlock | ErrorKind::TimedOut | ErrorKind::Interrupted => {}
+                    _ => return Err(error),
+                },
+            }
+        }
+        Ok(())
+    }
+
+    fn wait_for_reader(&self) {
+        let time = self.time_left().unwrap_or(LINGER);
+        drop(self.changed.wait_timeout_while(self.lock(), time, |state| state.reading));
+    }
+
+    /// The time until the stream is closed, where nothing more is to be sent.
+    fn time_left(&self) -> Option<Duration> {
+        self.lock().deadline.map(|deadline| deadline.saturating_duration_since(Instant::now()))
+    }
+
+    /// Fails only where the stream has ended already.
+    fn shut(&self, how: Shutdown) {
+        let _ = self.stream.shutdown(how);
+    }
+
+    /// No part of the state is left half changed, so a panic elsewhere does not matter.
+    fn lock(&self) -> MutexGuard<'_, State> {
+        self.state.lock().unwrap_or_else(PoisonError::into_inner)
+    }
+}

@@ -1,0 +1,187 @@
+//! The owner of the table.
+
+use super::link::Link;
+use super::spawn;
+use crate::notice::{Notice, Reason};
+use nt2::{CONNECTIONS, LONGEST_HELLO_ANSWER, Received, Recipients, Refusal, ServerTable, State};
+use std::io;
+use std::mem;
+use std::net::{SocketAddr, TcpStream};
+use std::sync::Arc;
+use std::sync::mpsc::{Receiver, SyncSender};
+
+/// What the owner is told.
+pub enum Event {
+    Accepted(io::Result<(TcpStream, SocketAddr)>),
+    Arrived { client: ClientKey, bytes: Vec<u8> },
+    Ended { client: ClientKey, result: io::Result<()> },
+    Stop,
+}
+
+/// A client by its connection number, which a later client may have again, and by how many were
+/// accepted before it.
+#[derive(Clone, Copy, PartialEq, Eq)]
+pub struct ClientKey {
+    connection: usize,
+    accepted_before: u64,
+}
+
+struct Client {
+    key: ClientKey,
+    link: Arc<Link>,
+    /// The beginning of a message that is not complete.
+    held: Vec<u8>,
+}
+
+pub struct Owner<N> {
+    table: ServerTable,
+    clients: [Option<Client>; CONNECTIONS],
+    accepted: u64,
+    output: Vec<u8>,
+    events: SyncSender<Event>,
+    notify: N,
+}
+
+impl<N: FnMut(&Notice)> Owner<N> {
+    /// A fresh table. Readers are given the sender of events.
+    pub fn new(events: SyncSender<Event>, notify: N) -> Self {
+        Owner {
+            table: ServerTable::new(),
+            clients: [const { None }; CONNECTIONS],
+            accepted: 0,
+            output: vec![0; LONGEST_HELLO_ANSWER],
+            events,
+            notify,
+        }
+    }
+
+    /// Makes the calls that the events ask for, until it is told to stop.
+    pub fn run(mut self, events: &Receiver<Event>) {
+        for event in events {
+            match event {
+                Event::Accepted(Ok((stream, peer))) => self.accept(stream, peer),
+                Event::Accepted(Err(error)) => (self.notify)(&Notice::NotAccepted { error }),
+                Event::Arrived { client, bytes } => self.receive(client, &bytes),
+                Event::Ended { client, result } => self.ended(client, result),
+                Event::Stop => break,
+            }
+        }
+        (0..CONNECTIONS).for_each(|connection| self.close(connection, Reason::Stopped));
+    }
+
+    /// Gives a stream the lowest closed connection, or closes it where there is none.
+    fn accept(&mut self, stream: TcpStream, peer: SocketAddr) {
+        let closed = |&connection: &usize| self.table.state(connection) == Some(State::Closed);
+        let Some(connection) = (0..CONNECTIONS).find(closed) else {
+            return (self.notify)(&Notice::TurnedAway { peer });
+        };
+        let key = ClientKey { connection, accepted_before: self.accepted };
+        let link = match self.start(stream, key) {
+            Ok(link) => link,
+            Err(error) => return (self.notify)(&Notice::NotAccepted { error }),
+        };
+        self.accepted += 1;
+        self.clients[connection] = Some(Client { key, link, held: Vec::new() });
+        (self.notify)(&Notice::Opened { connection, peer });
+        if let Err(refusal) = self.table.open(connection) {
+            self.refuse(connection, refusal);
+        }
+    }
+
+    /// Starts a stream's reader and writer.
+    fn start(&self, stream: TcpStream, key: ClientKey) -> io::Result<Arc<Link>> {
+        let link = Arc::new(Link::new(stream)?);
+        let writer = Arc::clone(&link);
+        spawn("writer", move || writer.write())?;
+        let (reader, events) = (Arc::clone(&link), self.events.clone());
+        let read = move || {
+            let arrived = |bytes: &[u8]| Event::Arrived { client: key, bytes: bytes.to_vec() };
+            let result = reader.read(|bytes| events.send(arrived(bytes)).is_ok());
+            // Without an owner there is nobody to tell.
+            let _ = events.send(Event::Ended { client: key, result });
+        };
+        spawn("reader", read).inspect_err(|_| link.abandon())?;
+        Ok(link)
+    }
+
+    /// The client, unless its connection was closed.
+    fn client(&mut self, key: ClientKey) -> Option<&mut Client> {
+        self.clients[key.connection].as_mut().filter(|client| client.key == key)
+    }
+
+    /// Gathers a client's bytes and takes the messages that are complete.
+    fn receive(&mut self, key: ClientKey, bytes: &[u8]) {
+        let Some(client) = self.client(key) else {
+            return;
+        };
+        let mut held = mem::take(&mut client.held);
+        held.extend_from_slice(bytes);
+        let taken = self.take_messages(key.connection, &held);
+        if let Some(client) = self.client(key) {
+            held.drain(..taken);
+            client.held = held;
+        }
+    }
+
+    /// Makes the call on a connection's bytes until none are left, the next message is not complete
+    /// or the connection is closed. Answers how many bytes were taken.
+    fn take_messages(&mut self, connection: usize, bytes: &[u8]) -> usize {
+        let mut all = 0;
+        while all < bytes.len() && self.clients[connection].is_some() {
+            match self.table.receive(connection, &bytes[all..], &mut self.output) {
+                Ok(Received::Done { taken, sent }) => {
+                    all += taken;
+                    let (length, recipients) = (sent.bytes.len(), sent.recipients);
+                    self.send(length, recipients);
+                    if self.table.state(connection) == Some(State::Closed) {
+                        self.close(connection, Reason::OtherRevision);
+                    }
+                }
+                Ok(Received::Ignored { taken }) => all += taken,
+                Err(Refusal::Incomplete) => break,
+                Err(refusal) => self.refuse(connection, refusal),
+            }
+        }
+        all
+    }
+
+    /// Sends the first bytes of the output to the recipients. One that does not read is dropped.
+    fn send(&mut self, length: usize, recipients: Recipients) {
+        for connection in recipients.iter() {
+            let bytes = &self.output[..length];
+            if self.clients[connection].as_ref().is_some_and(|client| !client.link.push(bytes)) {
+                self.close(connection, Reason::NotReading);
+            }
+        }
+    }
+
+    fn refuse(&mut self, connection: usize, refusal: Refusal) {
+        (self.notify)(&Notice::Refused { connection, refusal });
+        self.close(connection, Reason::Refused);
+    }
+
+    fn ended(&mut self, key: ClientKey, result: io::Result<()>) {
+        if self.client(key).is_some() {
+            let reason = result.map_or_else(Reason::Failed, |()| Reason::EndOfStream);
+            self.close(key.connection, reason);
+        }
+    }
+
+    /// Closes a connection, with a call unless the table has closed it by itself. The bytes that
+    /// the client sent and that are not taken are dropped.
+    fn close(&mut self, connection: usize, reason: Reason) {
+        let Some(client) = self.clients[connection].take() else {
+            return;
+        };
+        match reason {
+            Reason::NotReading => client.link.abandon(),
+            _ => client.link.finish(),
+        }
+        if self.table.state(connection) != Some(State::Closed)
+            && let Err(refusal) = self.table.leave(connection)
+        {
+            (self.notify)(&Notice::Refused { connection, refusal });
+        }
+        (self.notify)(&Notice::Left { connection, reason });
+    }
+}
