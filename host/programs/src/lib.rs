@@ -1,16 +1,21 @@
-//! The table over TCP: the server as a library, for the program and its tests.
+//! The table over TCP: the server and the client as a library, for the programs and their tests.
 
 #![forbid(unsafe_code)]
 
+pub mod client;
+pub mod command;
+pub mod failure;
+pub mod listing;
 pub mod notice;
 pub mod server;
+pub mod value;
 
 use std::env;
 use std::ffi::OsString;
 use std::fmt::Display;
 use std::io::{self, Write};
 
-/// Where a server listens if nothing else is said.
+/// Where a server listens, and a client looks for it, if nothing else is said.
 pub const DEFAULT_ADDRESS: &str = "127.0.0.1:1735";
 
 /// Bytes read from a stream at once: the longest messages have room, and a client's turn is short.
