@@ -1,0 +1,5 @@
+//! Server and client over TCP on the loopback.
+
+mod client;
+mod server;
+mod support;

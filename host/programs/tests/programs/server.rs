@@ -1,0 +1,214 @@
+//! The server, from the other end of its streams.
+
+use crate::support::{HELLO, TestClient, TestServer, assert_same, bytes_of, new_entry};
+use nt2::{CONNECTIONS, Copied, LONGEST_UPDATE, Message, Type};
+use nt2_programs::server::MOST_WAITING;
+use std::net::SocketAddr;
+use std::thread;
+
+const KEEP_ALIVE: u8 = 0x00;
+const PARENTS: &[u8] = b"\x02\x00\x05lot/1\x00\x05lot/2";
+
+fn boolean_update(id: u16, number: u16, value: &[u8]) -> Message<'_> {
+    Message::Update { value_type: Type::Boolean, id, number, value }
+}
+
+#[test]
+fn clients_share_one_table() {
+    let server = TestServer::start();
+    let (mut first, mut second) = (server.greeted(), server.greeted());
+    let tare = first.create("tare", Type::Boolean, &[0]);
+    second.expect(tare, 1);
+    let parents = second.create("lot/3/parents", Type::StringArray, PARENTS);
+    first.expect(parents, 1);
+    // An update goes to the others, so the sender's next message is its own assignment.
+    second.send(&boolean_update(tare, 2, &[1]));
+    let weight = second.create("weight", Type::Double, &12.5f64.to_be_bytes());
+    first.expect(tare, 2);
+    first.expect(weight, 1);
+    assert_eq!(second.copy.entry(tare).unwrap().number, 1);
+    // One with the number that is held is ignored, and so is an assignment of a held name.
+    second.send(&boolean_update(tare, 2, &[0]));
+    second.send(&new_entry("weight", Type::Boolean, &[1]));
+    second.send(&boolean_update(tare, 3, &[0]));
+    first.expect(tare, 3);
+    let late = server.greeted();
+    assert_eq!((late.copy.count(), late.copy.entry(parents).unwrap().value), (3, PARENTS));
+    assert_same(&first.copy, &late.copy);
+}
+
+/// A client that creates entries, writes each several times and says at last that it is done.
+fn write_entries(address: SocketAddr, writer: usize) {
+    let mut client = TestClient::connect(address);
+    client.greet();
+    for entry in 0..8 {
+        let id = client.create(&format!("{writer}/{entry}"), Type::Boolean, &[0]);
+        for number in 2..12 {
+            client.send(&boolean_update(id, number, &[(number % 2) as u8]));
+        }
+    }
+    client.create(&format!("{writer}/done"), Type::StringArray, PARENTS);
+}
+
+#[test]
+fn readers_and_late_joiners_hold_the_same() {
+    let server = TestServer::start();
+    let (mut early, address) = (server.greeted(), server.address());
+    let writers: Vec<_> =
+        (0..4).map(|writer| thread::spawn(move || write_entries(address, writer))).collect();
+    let mut joined_between = server.greeted();
+    for writer in 0..4 {
+        early.find(&format!("{writer}/done"));
+        joined_between.find(&format!("{writer}/done"));
+    }
+    let late = server.greeted();
+    assert_eq!(late.copy.count(), 36);
+    assert_same(&early.copy, &late.copy);
+    assert_same(&joined_between.copy, &late.copy);
+    writers.into_iter().for_each(|writer| writer.join().unwrap());
+}
+
+#[test]
+fn messages_in_pieces_and_together() {
+    let server = TestServer::start();
+    let mut client = server.connected(0);
+    let mut stream = bytes_of(&HELLO);
+    stream.extend(bytes_of(&Message::KeepAlive));
+    stream.extend(bytes_of(&new_entry("a", Type::StringArray, PARENTS)));
+    stream.iter().for_each(|byte| client.send_bytes(&[*byte]));
+    assert!(matches!(client.next(), Copied::HelloComplete { .. }));
+    client.expect(0, 1);
+    let mut together = bytes_of(&new_entry("b", Type::Boolean, &[0]));
+    together.extend(bytes_of(&boolean_update(1, 2, &[1])));
+    together.extend(bytes_of(&new_entry("c", Type::Boolean, &[1])));
+    client.send_bytes(&together);
+    client.expect(1, 1);
+    client.expect(2, 1);
+    assert_eq!(server.greeted().copy.entry(1).unwrap().number, 2);
+}
+
+#[test]
+fn damaged_message_closes_its_sender_only() {
+    let server = TestServer::start();
+    let (mut other, mut sender) = (server.connected(0), server.connected(1));
+    other.greet();
+    sender.greet();
+    // What stands before the damaged message is taken, what stands behind it is dropped.
+    let mut stream = bytes_of(&new_entry("before", Type::Boolean, &[1]));
+    stream.extend(b"\x10\x00\x02\xC0\x80\x00\xFF\xFF\x00\x00\x01");
+    stream.extend(bytes_of(&new_entry("behind", Type::Boolean, &[1])));
+    sender.send_bytes(&stream);
+    sender.expect(0, 1);
+    sender.expect_end();
+    server.expect("connection 1: refused with 9, text not UTF-8");
+    assert_eq!(server.next_notice(), "connection 1: left, a message was refused");
+    other.expect(0, 1);
+    assert_eq!(other.create("after", Type::Boolean, &[1]), 1);
+    server.connected(1).greet();
+}
+
+#[test]
+fn hello_for_another_revision_is_answered_and_closed() {
+    let server = TestServer::start();
+    let mut client = server.connected(0);
+    let mut stream = bytes_of(&Message::Hello { revision: 0x0300 });
+    stream.extend(bytes_of(&HELLO));
+    client.send_bytes(&stream);
+    assert_eq!(client.bytes(3), [0x02, 0x02, 0x00]);
+    client.expect_end();
+    assert_eq!(server.next_notice(), "connection 0: left, hello for another revision");
+    server.connected(0).greet();
+}
+
+#[test]
+fn end_of_a_stream_leaves() {
+    let server = TestServer::start();
+    let (mut stays, mut leaves) = (server.connected(0), server.connected(1));
+    stays.greet();
+    leaves.greet();
+    // All that was sent before the end is taken, but for the message that is cut.
+    leaves.send(&new_entry("last", Type::Boolean, &[1]));
+    leaves.send_bytes(&[0x11, 0x00]);
+    leaves.finish();
+    leaves.expect(0, 1);
+    leaves.expect_end();
+    assert_eq!(server.next_notice(), "connection 1: left, end of the stream");
+    stays.expect(0, 1);
+}
+
+#[test]
+fn seventeenth_is_turned_away() {
+    let server = TestServer::start();
+    let mut clients: Vec<_> = (0..CONNECTIONS).map(|number| server.connected(number)).collect();
+    let mut one_more = TestClient::connect(server.address());
+    one_more.expect_end();
+    assert!(server.next_notice().contains("turned away: all 16 connections are open"));
+    assert_eq!(server.run(&["list"]).unwrap_err().status(), 1);
+    drop(clients.remove(9));
+    drop(clients.remove(4));
+    server.expect("left, end of the stream");
+    server.expect("left, end of the stream");
+    server.connected(4).greet();
+    clients.iter_mut().for_each(TestClient::greet);
+}
+
+#[test]
+fn silent_client_holds_nobody_up() {
+    let server = TestServer::start();
+    let (_says_nothing, mut stops_halfway) = (server.connected(0), server.connected(1));
+    stops_halfway.greet();
+    stops_halfway.send_bytes(&[0x10, 0x00, 0x05, b'h', b'a']);
+    let mut client = server.greeted();
+    assert_eq!(client.create("tare", Type::Boolean, &[1]), 0);
+    stops_halfway.expect(0, 1);
+}
+
+#[test]
+fn client_that_sends_without_pause_holds_nobody_up() {
+    let server = TestServer::start();
+    let (mut busy, mut client) = (server.greeted(), server.greeted());
+    busy.send_bytes(&[KEEP_ALIVE; 262_144]);
+    client.create("tare", Type::Boolean, &[1]);
+    busy.expect(0, 1);
+}
+
+/// Updates of a String, sent together.
+const ROUND: u16 = 100;
+/// Far more than any buffer between server and client holds.
+const MOST_ROUNDS: usize = 4000;
+
+#[test]
+fn client_that_does_not_read_is_dropped() {
+    let server = TestServer::start();
+    let mut does_not_read = server.connected(0);
+    does_not_read.greet();
+    let (mut writer, mut reader) = (server.greeted(), server.greeted());
+    let mut value = vec![b'x'; 256];
+    value[..2].copy_from_slice(&254u16.to_be_bytes());
+    let id = writer.create("weight", Type::String, &value);
+    reader.expect(id, 1);
+    let (mut number, mut rounds) = (1u16, 0);
+    while !server.has_said("connection 0: left, the client does not read") {
+        assert!(rounds < MOST_ROUNDS);
+        let first = number.wrapping_add(1);
+        number = number.wrapping_add(ROUND);
+        let numbers = (0..ROUND).map(|step| first.wrapping_add(step));
+        let update = |number| {
+            bytes_of(&Message::Update { value_type: Type::String, id, number, value: &value })
+        };
+        writer.send_bytes(&numbers.clone().flat_map(update).collect::<Vec<u8>>());
+        numbers.for_each(|number| reader.expect(id, number));
+        rounds += 1;
+    }
+    assert!(rounds * usize::from(ROUND) * LONGEST_UPDATE > MOST_WAITING);
+    assert_same(&server.greeted().copy, &reader.copy);
+}
+
+#[test]
+fn stop_ends_all_streams() {
+    let server = TestServer::start();
+    let (mut greeted, mut open) = (server.greeted(), server.connected(1));
+    server.stop();
+    greeted.expect_end();
+    open.expect_end();
+}
