@@ -157,10 +157,15 @@ fn silent_client_holds_nobody_up() {
     let server = TestServer::start();
     let (_says_nothing, mut stops_halfway) = (server.connected(0), server.connected(1));
     stops_halfway.greet();
-    stops_halfway.send_bytes(&[0x10, 0x00, 0x05, b'h', b'a']);
+    let message = bytes_of(&new_entry("lot/3/parents", Type::StringArray, PARENTS));
+    let (half, rest) = message.split_at(message.len() / 2);
+    stops_halfway.send_bytes(half);
     let mut client = server.greeted();
     assert_eq!(client.create("tare", Type::Boolean, &[1]), 0);
     stops_halfway.expect(0, 1);
+    stops_halfway.send_bytes(rest);
+    stops_halfway.expect(1, 1);
+    client.expect(1, 1);
 }
 
 #[test]
