@@ -463,11 +463,12 @@ impl Generator {
 
     /// A name that obeys the build description.
     fn name(&mut self) -> Vec<u8> {
-        let length = match self.random.weighted(&[30, 5, 30, 10, 10, 15]) {
+        let length = match self.random.weighted(&[30, 5, 30, 10, 10, 15, 10]) {
             0 => {
                 let lot = self.random.below(1000);
                 return format!("lot/{lot}/parents").into_bytes();
             }
+            6 => return self.balanced_name(),
             1 => 0,
             2 => 1 + self.random.below(3),
             3 => NAME_ROOM,
@@ -475,6 +476,14 @@ impl Generator {
             _ => self.random.below(NAME_ROOM + 1),
         };
         self.text(length)
+    }
+
+    /// One of 12 names that have the same sum of bytes by their places, whatever the distance of two
+    /// neighbouring places' weights: the library gives them one fingerprint.
+    fn balanced_name(&mut self) -> Vec<u8> {
+        let step = self.random.below(12) as u8;
+        let (low, high) = (b'm' - step, b'm' + step);
+        [&b"lot/"[..], &[low, high, high, low], b"/parents"].concat()
     }
 
     /// A name, held in the table in so many of 100 cases. Few of the others are faults.
