@@ -6,13 +6,12 @@ use native.Mathlib.Nat.{not-suc-le-zero, add-zero}
 use native.Mathlib.Decide.{decLt}
 use native.Mathlib.Numerals.{add-one}
 use native.Mathlib.Omega.{arith}
-use lib.ListN.{length, getD, take, drop, length-append, length-drop}
-use lib.Seq.{length-take-le}
+use lib.ListN.{length, getD, take, drop, length-append}
 use Rattle.field.specs.Octets.{overwriteAt}
 use Rattle.field.proofs.OverwriteLaws.{overwrite-part}
 use Rattle.message.specs.Layout.{Entry, WellFormed, assignmentBytes}
 use Rattle.message.proofs.ReadBack.{length-assignment, longest-assignment}
-use Rattle.table.specs.Table.{Readable, headField, entryAt, tabulate}
+use Rattle.table.specs.Table.{Readable, entryAt, tabulate}
 use Rattle.table.proofs.TabulateLaws.{length-tabulate}
 use Rattle.table.proofs.SearchLaws.{name-fits, name-length, readable-less, value-fits, value-length}
 use Rattle.answers.specs.Hello.{helloAnswer}

@@ -112,10 +112,6 @@ pub recipient-bit : (to : Recipients) (marks : List ℕ) (c : ℕ) → c < 16 �
 unfolding recipientSet
 recipient-bit to marks c h = bit-tested 16 (isRecipient to marks) c h
 
-pub recipients-lt : (to : Recipients) (marks : List ℕ) → recipientSet to marks < 65536
-unfolding recipientSet
-recipients-lt to marks = bits-lt 16 (isRecipient to marks)
-
 pub nobody-set : (marks : List ℕ) → recipientSet nobody marks ≡ 0
 unfolding recipientSet
 nobody-set marks = bits-empty 16 (isRecipient nobody marks) (λ c h. refl)

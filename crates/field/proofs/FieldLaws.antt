@@ -1,10 +1,9 @@
 -- Laws of fields that are there, and of a reader's refusal.
-use mathlib.Core.Path.{_≡_, refl, sym, ap, _∙_}
+use mathlib.Core.Path.{_≡_, refl}
 use mathlib.Core.List.{List}
 use Prim.Native.Nat.{ℕ, _+_, _≤_, _<_}
 use lib.ListN.{length, getD, drop}
 use borrow.Author.Tests.{leb-true, leb-false}
-use Rattle.field.specs.Choice.{pick}
 use Rattle.field.specs.Octets.{decode16}
 use Rattle.field.specs.Field.{octetAt, numberAt}
 use Rattle.field.specs.declared.Parsed.{Parsed}

@@ -1,12 +1,10 @@
 -- Laws of decimal digits.
-use mathlib.Core.Path.{_≡_, refl, sym, ap, _∙_}
-use mathlib.Core.Bool.{Bool, true, false}
+use mathlib.Core.Path.{_≡_, refl, ap, _∙_}
 use mathlib.Core.List.{List, [], _∷_, _++_}
 use Prim.Native.Nat.{ℕ, zero, suc, _+_, _/_, _%_, _≤_, _<_}
 use native.Mathlib.Omega.{arith}
 use lib.Dec.{ltb}
 use borrow.Author.Tests.{lt-ltb, le-ltb, ltb-false}
-use Rattle.field.specs.Choice.{pick}
 use Rattle.field.proofs.ChoiceLaws.{pick-true, pick-false}
 use Rattle.listing.specs.Digits.{digitsOf, decimalText}
 use Rattle.listing.proofs.StepLaws.{pick-cong}

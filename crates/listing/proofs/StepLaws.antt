@@ -2,21 +2,20 @@
 use mathlib.Core.Path.{_≡_, refl}
 use mathlib.Core.Bool.{Bool, true, false}
 use mathlib.Core.List.{List}
-use Prim.Native.Nat.{ℕ, zero, suc, _+_, _≤_}
+use Prim.Native.Nat.{ℕ, _≤_}
 use native.Mathlib.Omega.{arith}
 use lib.ListN.{length, getD}
 use borrow.Author.Tests.{leb-true}
 use Rattle.field.specs.Choice.{pick}
 use Rattle.field.proofs.ChoiceLaws.{by-test}
 use Rattle.message.specs.Layout.{Entry}
-use Rattle.message.specs.Reader.{idAllowed, parseAssignment}
+use Rattle.message.specs.Reader.{idAllowed}
 use Rattle.message.specs.declared.AllowedId.the-variants.{Only}
 use Rattle.message.specs.declared.AssignmentRead.{AssignmentRead}
 use Rattle.message.specs.declared.AssignmentRead.the-variants as A
 use Rattle.message.specs.declared.UpdateRead.{UpdateRead}
 use Rattle.message.specs.declared.UpdateRead.the-variants as U
 use Rattle.message.proofs.TakenLaws.{AssignmentIs, assignment-is, UpdateIs, update-is}
-use Rattle.table.specs.Table.{parseHeldUpdate}
 use Rattle.answers.specs.Recipients.{Recipients}
 use Rattle.server.specs.Judge.{clientMessage, Verdict, refuse, ignore, acceptHello, unsupportedRevision, storeNew, storeUpdate, judge, judgeMessage, judgeHello, judgeAssignment, judgeUpdate}
 use Rattle.server.specs.Step.{ServerMemory, CallResult, callStep, execute, refusal}

@@ -6,7 +6,7 @@ ghost use lib.ListN.{length};
 ghost use Rattle.server.specs.Answers.{serverMemory};
 ghost use Rattle.listing.specs.Digits.{decimalText, hexDigit, hexText};
 ghost use Rattle.listing.specs.Put.{Put};
-ghost use Rattle.listing.specs.Listing.{headText, lineText, endText, messagesText, listingOn, listingText};
+ghost use Rattle.listing.specs.Listing.{lineText, endText, messagesText, listingOn, listingText};
 use server::Answer;
 
 // At most so many bytes of a stream are read.

@@ -1,5 +1,5 @@
 -- Laws of the reader that its code cites.
-use mathlib.Core.Path.{_≡_, refl, sym, ap, _∙_}
+use mathlib.Core.Path.{_≡_}
 use mathlib.Core.Bool.{Bool, true, false}
 use mathlib.Core.List.{List}
 use Prim.Native.Nat.{ℕ, _+_, _-_, _≤_, _<_}
@@ -22,7 +22,6 @@ use Rattle.message.specs.declared.AssignmentRead.{AssignmentRead}
 use Rattle.message.specs.declared.AssignmentRead.the-variants as A
 use Rattle.message.specs.declared.UpdateRead.{UpdateRead}
 use Rattle.message.specs.declared.UpdateRead.the-variants as U
-use Rattle.field.proofs.ChoiceLaws.{by-test}
 
 -- a name that was read has its prefix, and its bytes are there
 pub name-taken : (m : List ℕ) (n : ℕ) → 1 ≤ length m → parseName m ≡ Taken n → (2 ≤ n) × (1 + n ≤ length m)
@@ -61,26 +60,6 @@ module _ (held : ℕ → Bool) (typeOf : ℕ → ℕ) (m : List ℕ) where
       → parseUpdate held typeOf m ≡ parseUpdate (idAllowed Any) (λ _. t) m
   unfolding parseUpdate pick
   update-held id t h e k q = rw (le-leb 3 (length m) h, ← e, k, ← q)
-
--- the ID of an update that was read stands behind its kind
-data IdIs (m : List ℕ) : UpdateRead → Type 0 where
-  refused : {number place : ℕ} → IdIs m (U.Refused number place)
-  taken : {id number valueLength : ℕ} → id ≡ decode16 (drop 1 m) → IdIs m (U.Update id number valueLength)
-
-id-is : (held : ℕ → Bool) (typeOf : ℕ → ℕ) (m : List ℕ) → IdIs m (parseUpdate held typeOf m)
-unfolding parseUpdate
-id-is held typeOf m =
-    by-test (IdIs m) _ _ _ (λ _. by-test (IdIs m) _ _ _ (λ _. by-test (IdIs m) _ _ _ (λ _. go (parseValueAt _ 5 m)) (λ _. refused)) (λ _. refused)) (λ _. refused)
-  where
-    go : (r : Parsed) → IdIs m (andThen U.Refused r (λ v. U.Update (decode16 (drop 1 m)) (decode16 (drop 3 m)) v))
-    go (Refused number place) = refused
-    go (Taken v) = taken refl
-
-pub update-id : (held : ℕ → Bool) (typeOf : ℕ → ℕ) (m : List ℕ) (id q v : ℕ) → U.Update id q v ≡ parseUpdate held typeOf m → id ≡ decode16 (drop 1 m)
-update-id held typeOf m id q v e = go (rw (← e) at (id-is held typeOf m))
-  where
-    go : IdIs m (U.Update id q v) → id ≡ decode16 (drop 1 m)
-    go (taken h) = h
 
 -- ---- a refused answer determines its number
 

@@ -13,7 +13,7 @@ use Rattle.field.specs.declared.Parsed.{Parsed}
 use Rattle.field.specs.declared.Parsed.the-variants.{Refused, Taken}
 use Rattle.text.specs.Text.{prefixSize, parseText}
 use Rattle.value.specs.Value.{knownType, parseValue}
-use Rattle.message.specs.Layout.{Entry, Message, keepAlive, hello, unsupported, helloComplete, assignment, update, maxNameLength, keepAliveKind, helloKind, unsupportedKind, helloCompleteKind, assignmentKind, updateKind}
+use Rattle.message.specs.Layout.{Message, keepAlive, hello, unsupported, helloComplete, assignment, update, maxNameLength, keepAliveKind, helloKind, unsupportedKind, helloCompleteKind, assignmentKind, updateKind}
 use Rattle.message.specs.declared.AllowedId.{AllowedId}
 use Rattle.message.specs.declared.AllowedId.the-variants.{Any, Only}
 use Rattle.message.specs.declared.AssignmentRead.{AssignmentRead}

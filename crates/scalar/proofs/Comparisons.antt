@@ -1,6 +1,5 @@
 -- Comparisons of Doubles by their patterns: the two zeros are equal, and a NaN is equal to nothing.
-use Prim.Native.Nat.{ℕ}
-use mathlib.Core.Bool.{Bool, true, false}
+use mathlib.Core.Bool.{true, false}
 use mathlib.Core.Path.{_≡_, refl}
 use lib.Ieee.{binary64, ofBits, eq}
 

@@ -1,19 +1,18 @@
 -- How long a Boolean, a Double and a Double array are, and Doubles compared one after the other.
-use mathlib.Core.Path.{_≡_, refl, sym, ap, _∙_}
-use mathlib.Core.Bool.{Bool, true, false, _&&_}
-use mathlib.Core.List.{List, [], _∷_}
+use mathlib.Core.Path.{_≡_, refl}
+use mathlib.Core.Bool.{true, _&&_}
+use mathlib.Core.List.{List}
 use Prim.Native.Nat.{ℕ, zero, suc, _+_, _-_, _*_, _≤_, _<_}
 use native.Mathlib.Omega.{arith}
 use lib.ListN.{length, drop, getD, length-drop}
 use lib.Seq.{drop-drop}
-use lib.Dec.{leb, eqb}
 use borrow.Author.Tests.{leb-true}
 use Rattle.field.specs.Choice.{pick}
 use Rattle.field.specs.Field.{andThen, movedBy}
 use Rattle.field.specs.declared.Parsed.{Parsed}
 use Rattle.field.specs.declared.Parsed.the-variants.{Refused, Taken}
 use Rattle.field.proofs.ChoiceLaws.{by-test}
-use Rattle.value.specs.Value.{parseBoolean, parseDouble, parseElement, countFits, elements, parseArray, parseValue, knownType, IsValue}
+use Rattle.value.specs.Value.{parseBoolean, parseDouble, parseElement, elements, parseArray, parseValue, knownType, IsValue}
 use Rattle.scalar.specs.Scalar.{equalDouble, equalDoubles}
 
 -- a reader that takes something takes what has a length of at least n

@@ -1,6 +1,6 @@
 -- Doubles as numbers: the scalar that a value is, and when two values are equal.
 use Prim.Native.Nat.{ℕ, zero, suc, _+_, _*_}
-use mathlib.Core.Bool.{Bool, true, false, _&&_}
+use mathlib.Core.Bool.{Bool, true, _&&_}
 use mathlib.Core.List.{List}
 use lib.ListN.{drop, getD}
 use lib.Dec.{eqb}

@@ -1,5 +1,5 @@
 -- What a sound table gives to those that read from it.
-use mathlib.Core.Path.{_≡_, sym, ap, _∙_}
+use mathlib.Core.Path.{_≡_}
 use mathlib.Core.Bool.{true, _&&_, and-eq-true-iff}
 use mathlib.Core.List.{List}
 use Prim.Native.Nat.{ℕ, _+_, _-_, _*_, _≤_, _<_}
@@ -8,7 +8,6 @@ use native.Mathlib.Omega.{arith}
 use lib.ListN.{length, take, drop}
 use Rattle.value.specs.Value.{IsValue, maxValueSize}
 use Rattle.value.proofs.ValueLaws.{value-known, known-small}
-use Rattle.message.specs.Layout.{WellFormed}
 use Rattle.table.specs.Table.{TableMemory, Holds, Named, Readable, headField, headSize, typeField, valueLengthField, valueStart, entryAt}
 use Rattle.soundness.specs.Sound.{soundTable, soundMarks}
 use Rattle.soundness.proofs.SoundLaws.{SoundFacts, sound-facts, marks-facts}

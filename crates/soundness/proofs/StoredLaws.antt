@@ -11,7 +11,7 @@ use Rattle.value.specs.Value.{IsValue}
 use Rattle.value.proofs.ValueLaws.{value-small}
 use Rattle.message.specs.Layout.{Entry, WellFormed}
 use Rattle.table.specs.Names.{nameHeld, namesDiffer}
-use Rattle.table.specs.Table.{TableMemory, entryAt, entriesOf, tabulate, emptied, defaultEntry, storeEntry, storeValue}
+use Rattle.table.specs.Table.{TableMemory, entriesOf, tabulate, emptied, defaultEntry, storeEntry, storeValue}
 use Rattle.table.proofs.NamesLaws.{differ-last, differ-at, at-differ}
 use Rattle.table.proofs.StoreLaws.{withNumberAndValue, Fit, entries-value, fit-value, entries-new, fit-new}
 use Rattle.table.proofs.TabulateLaws.{length-entries, entry-get}

@@ -1,35 +1,20 @@
 -- Laws of the search over names. A place in a list of entries is read with any default.
 use mathlib.Core.Path.{_≡_, refl, sym, ap, _∙_}
-use mathlib.Core.Bool.{Bool, true, false, not, _&&_, _||_, and-false, or-false, or-assoc, and-eq-true-iff, true≢false, false≢true}
+use mathlib.Core.Bool.{Bool, true, false, not, _&&_, _||_, and-false, or-false, or-assoc, and-eq-true-iff, true≢false}
 use mathlib.Core.List.{List, [], _∷_, _++_}
-use Prim.Native.Nat.{ℕ, zero, suc, _+_, _≤_, _<_}
+use Prim.Native.Nat.{ℕ, zero, suc, _+_, _<_}
 use native.Mathlib.Nat.{not-suc-le-zero}
-use native.Mathlib.Numerals.{add-one}
 use native.Mathlib.Omega.{arith}
-use lib.Dec.{eqb, ltb, leb·suc-suc}
-use lib.ListN.{length, getD, drop}
-use lib.Seq.{drop-cons, drop-length}
-use borrow.Author.Tests.{eqb-true, eq-eqb, ne-eqb, ltb-false, lt-ltb, le-ltb, not-true}
+use lib.Dec.{ltb, leb·suc-suc}
+use lib.ListN.{length, getD}
+use borrow.Author.Tests.{lt-ltb, le-ltb, not-true}
 use Rattle.field.specs.Choice.{pick}
 use Rattle.message.specs.Layout.{Entry}
 use Rattle.field.specs.Octets.{bytesEqual}
-use Rattle.field.proofs.EqualLaws.{is-false, bytes-equal-true, bytes-equal-sym, equal-bytes, bytes-equal-false}
+use Rattle.field.proofs.EqualLaws.{bytes-equal-sym, equal-bytes, bytes-equal-false}
 use Rattle.table.specs.Names.{holder, nameHeld, namesDiffer}
 
 -- ---- the first entry with a name
-
-pub holder-bound : (name : List ℕ) (es : List Entry) → holder name es ≤ length es
-unfolding holder pick
-holder-bound name [] = omega arith
-holder-bound name (e ∷ es) = go (bytesEqual (e .name) name) (holder-bound name es)
-  where
-    go : (t : Bool) → holder name es ≤ length es → pick t 0 (suc (holder name es)) ≤ suc (length es)
-    go true h = omega arith
-    go false h = omega arith
-
-pub holder-none : (name : List ℕ) (es : List Entry) → nameHeld name es ≡ false → holder name es ≡ length es
-unfolding nameHeld
-holder-none name es h = omega (arith, holder-bound name es, ltb-false (holder name es) (length es) h)
 
 pub holder-found : (name : List ℕ) (es : List Entry) (d : Entry) → holder name es < length es → bytesEqual (getD es (holder name es) d .name) name ≡ true
 unfolding holder pick
@@ -100,10 +85,6 @@ pub held-absent : (name : List ℕ) (es : List Entry) (d : Entry) → ((i : ℕ)
     → nameHeld name es ≡ false
 unfolding nameHeld
 held-absent name es d h = le-ltb (holder name es) (length es) (omega (arith, holder-absent name es d h))
-
-pub held-first : (name : List ℕ) (es : List Entry) → holder name es < length es → nameHeld name es ≡ true
-unfolding nameHeld
-held-first name es h = lt-ltb (holder name es) (length es) h
 
 -- ---- names that all differ
 

@@ -1,8 +1,8 @@
 -- Laws of a text behind its length.
-use mathlib.Core.Path.{_≡_, refl, sym, ap, _∙_}
-use mathlib.Core.Bool.{Bool, true, false}
+use mathlib.Core.Path.{_≡_, refl}
+use mathlib.Core.Bool.{true}
 use mathlib.Core.List.{List, _++_}
-use Prim.Native.Nat.{ℕ, suc, _+_, _≤_, _<_}
+use Prim.Native.Nat.{ℕ, suc, _+_, _≤_}
 use native.Mathlib.Omega.{arith}
 use lib.ListN.{length, take, drop, length-append}
 use lib.Seq.{take-append-seam}
@@ -17,7 +17,7 @@ use Rattle.field.specs.declared.Parsed.the-variants.{Refused, Taken}
 use Rattle.field.proofs.ChoiceLaws.{by-test}
 use Rattle.field.proofs.OctetsLaws.{decode-encode, same-length, same-decode, same-rest}
 use Rattle.text.specs.Utf8.{isUtf8}
-use Rattle.text.specs.Text.{prefixSize, parseText}
+use Rattle.text.specs.Text.{parseText}
 
 -- what a reader has checked once its prefix is there
 pub after-prefix : (maxSize sizeSoFar n : ℕ) (s : List ℕ) → 2 ≤ length s → n ≡ decode16 s

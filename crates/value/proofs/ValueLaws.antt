@@ -1,8 +1,8 @@
 -- Laws of values: what is taken is there, has at most 256 bytes, and is taken wherever the same bytes stand first.
 use mathlib.Core.Path.{_≡_, refl, sym, ap, _∙_}
 use mathlib.Core.Bool.{Bool, true, false, _&&_, false≢true}
-use mathlib.Core.List.{List, [], _∷_, _++_}
-use Prim.Native.Nat.{ℕ, zero, suc, _+_, _-_, _*_, _≤_, _<_}
+use mathlib.Core.List.{List, _++_}
+use Prim.Native.Nat.{ℕ, _+_, _-_, _≤_, _<_}
 use native.Mathlib.Omega.{arith}
 use native.Mathlib.Decide.{decLe}
 use native.Mathlib.Nat.{le-refl}
@@ -15,7 +15,7 @@ use Rattle.field.specs.Field.{andThen, placeOf}
 use Rattle.field.specs.declared.Parsed.{Parsed}
 use Rattle.field.specs.declared.Parsed.the-variants.{Refused, Taken}
 use Rattle.field.proofs.ChoiceLaws.{by-test}
-use Rattle.field.proofs.OctetsLaws.{same-length, same-getD, same-front, same-rest}
+use Rattle.field.proofs.OctetsLaws.{same-length, same-getD, same-rest}
 use Rattle.value.specs.Value.{knownType, maxValueSize, countFits, parseBoolean, parseDouble, parseElement, elements, parseArray, parseValue, parseLone, IsValue}
 use Rattle.value.proofs.ElementLaws.{Reads, AllReads, reads-taken, reads-refused, boolean-reads, double-reads, string-reads, element-reads, widen, RunReads, run-reads, AtMost, array-most}
 

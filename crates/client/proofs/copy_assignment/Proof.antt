@@ -1,12 +1,12 @@
 use mathlib.Core.Bool.{true, false}
-use mathlib.Core.Path.{_≡_, refl, sym, ap, _∙_}
-use Prim.Native.Nat.{ℕ, _+_, _-_, _≤_, _<_}
+use mathlib.Core.Path.{_≡_, sym, _∙_}
+use Prim.Native.Nat.{_+_, _-_, _≤_, _<_}
 use native.Mathlib.Nat.{add-sub-cancel-left}
 use native.Mathlib.Omega.{arith}
 use lib.ListN.{length, take, drop, length-take}
 use borrow.Author.Tests.{lt-ltb, le-ltb}
 use Rattle.field.specs.Choice.{pick}
-use Rattle.message.specs.Reader.{idAllowed, parseAssignment}
+use Rattle.message.specs.Reader.{idAllowed}
 use Rattle.message.specs.declared.AllowedId.the-variants.{Only}
 use Rattle.message.proofs.TakenLaws.{assignment-fits}
 use Rattle.table.specs.Names.{holder, nameHeld}

@@ -3,7 +3,6 @@ use Rattle.field.specs.Choice.{pick}
 use Rattle.client.specs.Copy.{copyFreshStart}
 use borrow.Author.Tests.{le-leb, lt-leb}
 use mathlib.Core.Path.{refl}
-use mathlib.Core.Bool.{_&&_}
 use borrow.Author.Needs.{needs}
 use Rattle.client.proofs.copy_fresh.Statement.{statement}
 use Rattle.client.proofs.copy_fresh.Tie as tie

@@ -1,4 +1,4 @@
-use Rattle.table.specs.Table.{tableMemory, entriesOf}
+use Rattle.table.specs.Table.{tableMemory}
 use Rattle.table.proofs.TabulateLaws.{length-entries}
 use mathlib.Core.Path.{_≡_, sym, _∙_}
 use Prim.Native.Nat.{_≤_}

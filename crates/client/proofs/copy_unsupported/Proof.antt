@@ -1,10 +1,8 @@
-use mathlib.Core.Path.{_≡_, sym, _∙_}
-use Prim.Native.Nat.{_≤_}
+use mathlib.Core.Path.{sym, _∙_}
 use native.Mathlib.Omega.{arith}
-use lib.ListN.{length, drop}
+use lib.ListN.{length}
 use borrow.Author.Tests.{le-leb, lt-leb}
 use Rattle.field.specs.Choice.{pick}
-use Rattle.field.specs.Octets.{decode16}
 use Rattle.field.proofs.FieldLaws.{number-there, number-missing}
 use Rattle.client.specs.Copy.{executeCopy}
 use borrow.Author.Needs.{needs}

@@ -1,8 +1,7 @@
-use mathlib.Core.Path.{_≡_, refl, sym, ap, _∙_}
-use mathlib.Core.List.{List}
+use mathlib.Core.Path.{_≡_, sym, _∙_}
 use Prim.Native.Nat.{ℕ, _+_, _-_, _≤_, _<_}
 use native.Mathlib.Omega.{arith}
-use lib.ListN.{length, take, drop, length-take}
+use lib.ListN.{length, drop, length-take}
 use Rattle.table.specs.Table.{TableMemory, tableMemory, entriesOf, parseHeldUpdate, storeValue}
 use Rattle.table.proofs.UpdateLaws.{held-update-fits}
 use Rattle.soundness.proofs.ReadableLaws.{sound-holds, sound-count, sound-readable}

@@ -1,6 +1,4 @@
-use mathlib.Core.Path.{sym}
-use mathlib.Core.List.{_∷_, []}
-use Prim.Native.Nat.{_+_, _/_, _%_, _≤_}
+use Prim.Native.Nat.{_+_, _≤_}
 use native.Mathlib.Omega.{arith}
 use Rattle.listing.proofs.PutLaws.{put-next, put-length}
 use Rattle.listing.proofs.DigitLaws.{one-digit, more-digits}

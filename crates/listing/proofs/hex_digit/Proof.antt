@@ -1,6 +1,4 @@
 use mathlib.Core.Path.{sym}
-use mathlib.Core.Path.{refl}
-use native.Mathlib.Omega.{arith}
 use borrow.Author.Tests.{lt-ltb, le-ltb}
 use Rattle.field.proofs.ChoiceLaws.{pick-true, pick-false}
 use Rattle.listing.specs.Digits.{hexDigit}

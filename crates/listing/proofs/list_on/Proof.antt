@@ -1,4 +1,4 @@
-use mathlib.Core.Path.{_≡_, refl, ap, _∙_}
+use mathlib.Core.Path.{ap, _∙_}
 use mathlib.Core.List.{[]}
 use Rattle.server.specs.Judge.{openConnection}
 use Rattle.server.specs.Step.{ServerMemory, CallResult, callStep}

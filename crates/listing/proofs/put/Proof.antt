@@ -1,5 +1,4 @@
 use mathlib.Core.List.{_∷_, []}
-use Prim.Native.Nat.{ℕ, _+_, _≤_, _<_}
 use native.Mathlib.Omega.{arith}
 use Rattle.listing.proofs.PutLaws.{put-past, put-one}
 use borrow.Author.Needs.{needs}

@@ -1,9 +1,8 @@
-use mathlib.Core.Path.{_≡_, refl, ap}
-use Prim.Native.Nat.{ℕ, _+_, _-_, _≤_, _<_}
+use mathlib.Core.Path.{_≡_}
+use Prim.Native.Nat.{_-_, _≤_}
 use native.Mathlib.Omega.{arith}
 use lib.ListN.{length, take}
 use lib.Seq.{take-length}
-use borrow.Author.Needs.{needs}
 use Rattle.listing.specs.Put.{Put}
 use Rattle.listing.proofs.PutLaws.{put-past, put-nothing, put-more, put-length}
 use Rattle.listing.proofs.put_bytes.Statement.{statement}

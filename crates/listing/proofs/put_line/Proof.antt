@@ -1,4 +1,3 @@
-use mathlib.Core.List.{_∷_, []}
 use Rattle.listing.specs.Put.{Put}
 use Rattle.listing.specs.Listing.{lineText}
 use Rattle.listing.proofs.PutLaws.{put-next, put-length}

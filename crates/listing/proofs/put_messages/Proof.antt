@@ -1,6 +1,6 @@
 use Rattle.listing.proofs.PutLaws.{put-length}
-use mathlib.Core.Path.{_≡_, refl, sym, ap, _∙_}
-use Prim.Native.Nat.{ℕ, _+_, _-_, _≤_, _<_}
+use mathlib.Core.Path.{_≡_, refl, _∙_}
+use Prim.Native.Nat.{_-_, _≤_, _<_}
 use native.Mathlib.Omega.{arith}
 use lib.ListN.{length, drop}
 use borrow.Author.Needs.{needs}
@@ -8,7 +8,6 @@ use Rattle.field.proofs.OctetsLaws.{rest-all}
 use Rattle.server.specs.Step.{CallResult}
 use Rattle.listing.specs.Listing.{messageStep}
 use Rattle.server.specs.Answers.{serverMemory, resultOf}
-use Rattle.listing.proofs.StepLaws.{message-takes}
 use Rattle.listing.proofs.MessagesLaws.{LeadsTo, leads-start, leads-on, leads-end, leads-refused, step-fits}
 use Rattle.listing.proofs.put_messages.Statement.{statement}
 use Rattle.listing.proofs.put_messages.Tie as tie

@@ -1,6 +1,6 @@
 use Rattle.message.specs.Reader.{parseAfterName, idAllowed}
 use Rattle.message.proofs.ReaderLaws.{behindId, after-id}
-use mathlib.Core.Path.{_≡_, refl, sym, ap, _∙_}
+use mathlib.Core.Path.{_≡_, sym, _∙_}
 use Prim.Native.Nat.{ℕ, _+_, _-_, _≤_}
 use mathlib.Core.List.{List}
 use native.Mathlib.Omega.{arith}

@@ -1,6 +1,6 @@
-use mathlib.Core.Path.{_≡_, refl, ap, _∙_}
+use mathlib.Core.Path.{_≡_, ap, _∙_}
 use native.Mathlib.Omega.{arith}
-use lib.ListN.{length, drop, length-drop}
+use lib.ListN.{drop, length-drop}
 use Rattle.field.proofs.OctetsLaws.{rest-all}
 use Rattle.text.specs.Text.{parseText}
 use Rattle.text.proofs.TextLaws.{text-place}

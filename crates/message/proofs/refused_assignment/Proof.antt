@@ -1,4 +1,3 @@
-use mathlib.Core.Path.{_≡_}
 use borrow.Author.Needs.{needs}
 use Rattle.message.proofs.refused_assignment.Statement.{statement}
 use Rattle.message.proofs.refused_assignment.Tie as tie

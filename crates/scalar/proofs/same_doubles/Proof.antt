@@ -1,10 +1,9 @@
-use mathlib.Core.Path.{_≡_, refl, sym, ap, ap₂, _∙_}
-use mathlib.Core.Bool.{true, false}
-use Prim.Native.Nat.{ℕ, _+_, _-_, _*_, _≤_}
+use mathlib.Core.Path.{_≡_, refl, sym, ap₂, _∙_}
+use Prim.Native.Nat.{_+_, _-_, _*_, _≤_}
 use native.Mathlib.Omega.{arith}
 use borrow.Author.Needs.{needs}
 use borrow.Author.Tests.{not-true, not-false}
-use lib.ListN.{length, drop, length-drop, length-take}
+use lib.ListN.{length, drop, length-drop}
 use Rattle.field.proofs.OctetsLaws.{rest-all}
 use Rattle.scalar.specs.Scalar.{equalDouble, equalDoubles}
 use Rattle.scalar.proofs.ShapeLaws.{doubles-step, doubles-none}

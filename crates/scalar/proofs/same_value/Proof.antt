@@ -1,10 +1,8 @@
-use mathlib.Core.Path.{_≡_, sym, _∙_}
 use Prim.Native.Nat.{_≤_, _+_, _*_}
 use native.Mathlib.Omega.{arith}
 use lib.ListN.{length, getD}
 use borrow.Author.Tests.{eq-eqb, ne-eqb}
 use Rattle.field.specs.Choice.{pick}
-use Rattle.value.specs.Value.{IsValue}
 use Rattle.scalar.specs.Scalar.{equalValues}
 use Rattle.scalar.proofs.ShapeLaws.{double-length, double-array-length}
 use borrow.Author.Needs.{needs}

@@ -1,10 +1,5 @@
-use mathlib.Core.Path.{_≡_, sym, _∙_}
-use Prim.Native.Nat.{_≤_}
-use native.Mathlib.Omega.{arith}
-use lib.ListN.{length}
 use borrow.Author.Tests.{eq-eqb, ne-eqb}
 use Rattle.field.specs.Choice.{pick}
-use Rattle.value.specs.Value.{IsValue}
 use Rattle.scalar.specs.Scalar.{scalarOf}
 use Rattle.scalar.proofs.ShapeLaws.{boolean-length, double-length}
 use borrow.Author.Needs.{needs}

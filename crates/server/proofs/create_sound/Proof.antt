@@ -1,15 +1,13 @@
 use Rattle.writer.proofs.WriterLaws.{name-taken, lone-taken-is}
-use mathlib.Core.Path.{_≡_, refl, sym, ap, _∙_}
-use mathlib.Core.Bool.{true, false}
-use Prim.Native.Nat.{ℕ, _+_, _-_, _≤_, _<_}
+use mathlib.Core.Path.{_≡_, sym, _∙_}
+use Prim.Native.Nat.{_-_}
 use native.Mathlib.Omega.{arith}
-use lib.ListN.{length}
 use borrow.Author.Tests.{lt-ltb, le-ltb}
 use Rattle.field.specs.Choice.{pick}
-use Rattle.field.specs.declared.Parsed.the-variants.{Refused, Taken}
+use Rattle.field.specs.declared.Parsed.the-variants.{Taken}
 use Rattle.value.specs.Value.{parseLone}
 use Rattle.writer.specs.Writer.{checkName}
-use Rattle.table.specs.Names.{holder, nameHeld}
+use Rattle.table.specs.Names.{holder}
 use Rattle.table.specs.Table.{TableMemory, tableMemory, entriesOf}
 use Rattle.table.proofs.TabulateLaws.{length-entries}
 use Rattle.table.proofs.SearchLaws.{found-held, not-found}

@@ -1,6 +1,4 @@
 use mathlib.Core.Path.{refl}
-use mathlib.Core.Bool.{_&&_, and-false}
-use lib.ListN.{length}
 use borrow.Author.Tests.{le-leb, lt-leb}
 use Rattle.field.specs.Choice.{pick}
 use Rattle.soundness.specs.Sound.{largeEnough}

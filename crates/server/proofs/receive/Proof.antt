@@ -1,4 +1,4 @@
-use Prim.Native.Nat.{_≤_, _<_}
+use Prim.Native.Nat.{_≤_}
 use native.Mathlib.Omega.{arith}
 use lib.ListN.{length}
 use mathlib.Core.Bool.{true, _&&_}
@@ -6,7 +6,7 @@ use borrow.Author.Tests.{lt-ltb, le-ltb, eq-eqb, ne-eqb}
 use Rattle.soundness.specs.Sound.{soundTable, soundMarks}
 use Rattle.soundness.proofs.ReadableLaws.{table-sound, sixteen-marks}
 use Rattle.server.specs.Step.{execute}
-use mathlib.Core.Path.{_≡_, refl, sym, ap, _∙_}
+use mathlib.Core.Path.{_≡_, sym, _∙_}
 use borrow.Author.Tests.{not-true, not-false}
 use Rattle.field.specs.Choice.{pick}
 use Rattle.table.specs.Table.{tableMemory}

@@ -3,7 +3,6 @@ use mathlib.Core.Bool.{true}
 use mathlib.Core.List.{List}
 use Prim.Native.Nat.{ℕ, _+_, _-_, _*_, _≤_, _<_}
 use native.Mathlib.Omega.{arith}
-use borrow.Author.Needs.{needs}
 use lib.ListN.{length, getD, length-set}
 use Rattle.message.specs.Layout.{Entry}
 use Rattle.table.specs.Names.{namesDiffer}

@@ -1,11 +1,9 @@
-use mathlib.Core.Path.{_≡_, sym, _∙_}
+use mathlib.Core.Path.{sym, _∙_}
 use mathlib.Core.List.{List}
 use Prim.Native.Nat.{ℕ, _+_, _-_, _*_, _≤_}
 use native.Mathlib.Omega.{arith}
 use borrow.Author.Needs.{needs}
-use lib.Dec.{ltb}
 use lib.ListN.{getD}
-use Rattle.message.specs.Layout.{Entry}
 use Rattle.table.specs.Names.{nameHeld}
 use Rattle.table.specs.Table.{Named, entryAt}
 use Rattle.table.proofs.SearchLaws.{name-fits, name-part, named-less}

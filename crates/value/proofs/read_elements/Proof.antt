@@ -1,10 +1,9 @@
 use mathlib.Core.Path.{_≡_, refl, sym, ap, _∙_}
-use Prim.Native.Nat.{ℕ, _+_, _-_, _*_, _≤_, _<_}
+use Prim.Native.Nat.{ℕ, _+_, _-_, _*_, _≤_}
 use native.Mathlib.Omega.{arith}
 use borrow.Author.Needs.{needs}
 use lib.ListN.{length, drop, length-drop}
-use Rattle.field.specs.declared.Parsed.{Parsed}
-use Rattle.field.specs.declared.Parsed.the-variants.{Refused, Taken}
+use Rattle.field.specs.declared.Parsed.the-variants.{Taken}
 use Rattle.field.proofs.OctetsLaws.{rest-all}
 use Rattle.value.specs.Value.{parseElement, elements}
 use Rattle.value.proofs.ElementLaws.{reads-taken, reads-refused, element-reads, elements-step, elements-stop, elements-none}

@@ -1,11 +1,9 @@
 use Rattle.value.proofs.ValueLaws.{known-array}
-use mathlib.Core.Path.{_≡_, sym, ap, _∙_}
-use Prim.Native.Nat.{_≤_}
-use native.Mathlib.Omega.{arith}
-use borrow.Author.Tests.{le-leb, lt-leb, leb-true, not-true, not-false}
+use mathlib.Core.Path.{sym, ap, _∙_}
+use borrow.Author.Tests.{le-leb, lt-leb, not-true, not-false}
 use Rattle.field.specs.Choice.{pick}
 use Rattle.field.proofs.OctetsLaws.{rest-all}
-use Rattle.value.specs.Value.{parseElement, parseValue, knownType}
+use Rattle.value.specs.Value.{parseElement, parseValue}
 use borrow.Author.Needs.{needs}
 use Rattle.value.proofs.read_value.Statement.{statement}
 use Rattle.value.proofs.read_value.Tie as tie

@@ -1,5 +1,4 @@
-use mathlib.Core.Path.{_≡_, sym, ap, _∙_}
-use Prim.Native.Nat.{ℕ}
+use mathlib.Core.Path.{ap}
 use Rattle.field.proofs.FieldLaws.{refused-number}
 use Rattle.writer.specs.declared.Needed.the-variants as N
 use borrow.Author.Needs.{needs}

@@ -1,9 +1,6 @@
 -- The entries that are left fall with each turn.
-use mathlib.Core.Path.{_≡_, refl}
-use Prim.Native.Nat.{_-_, _≤_, _<_}
+use Prim.Native.Nat.{_-_, _≤_}
 use native.Mathlib.Omega.{arith}
-use lib.ListN.{length}
-use borrow.Author.Needs.{needs}
 use Rattle.run_example.proofs.copies.equal_entries.Statement.{statement}
 use Rattle.run_example.proofs.copies.equal_entries.Tie as tie
 
