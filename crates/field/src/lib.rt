@@ -130,7 +130,7 @@ pub fn copy_into(out: &mut [u8], at: usize, src: &[u8])
 }
 
 // Whether bytes were equal so far and two more are.
-fn still_equal(so_far: bool, x: u8, y: u8) -> bool
+pub fn still_equal(so_far: bool, x: u8, y: u8) -> bool
     ensures { λ r. ⌜ r ≡ («so_far» && eqb x y) ⌝ }
 {
     if x == y { so_far } else { false }

@@ -58,6 +58,7 @@ fn refused(number: u8) -> Answer
     }
 }
 
+// Whether the table and the marks are sound. Heads and bytes go on as parts of themselves (DECISIONS 43).
 fn is_sound(heads: &[u16], bytes: &[u8], count: u16, marks: &[u8]) -> bool
     ensures { λ r. ⌜ r ≡ (soundTable maxEntries (tableMemory (now (heads .entry)) (now (bytes .entry)) count) && soundMarks (now (marks .entry))) ⌝ }
 {

@@ -19,7 +19,7 @@ use Rattle.message.specs.Layout.{Entry}
 use Rattle.table.specs.Names.{nameHeld}
 use Rattle.table.specs.Table.{tabulate}
 use Rattle.table.proofs.SearchLaws.{held-below, absent-below}
-use Rattle.soundness.specs.Fingerprint.{fingerprints, several, weightAt, weighed, fingerprintOf, Tells}
+use Rattle.soundness.specs.Fingerprint.{fingerprints, several, weightAt, weighed, fingerprintOf, Covers}
 
 -- ---- the number
 
@@ -49,8 +49,8 @@ fingerprint-small name = mod-lt (weighed (length name) name) {m = 1024} (omega a
 abbrev pub Owned : List ℕ → (ℕ → Entry) → ℕ → Type 0
 Owned owners f j = (getD owners (fingerprintOf (f j .name)) 0 ≡ j + 1) ⊎ (getD owners (fingerprintOf (f j .name)) 0 ≡ several)
 
-pub tells : (owners : List ℕ) (f : ℕ → Entry) (i : ℕ) → ((j : ℕ) → j < i → Owned owners f j) → Tells i f (getD owners (fingerprintOf (f i .name)) 0)
-tells owners f i all j l e = rw (ap fingerprintOf e) at (all j l)
+pub covers : (owners : List ℕ) (f : ℕ → Entry) (i : ℕ) → ((j : ℕ) → j < i → Owned owners f j) → Covers i f (getD owners (fingerprintOf (f i .name)) 0)
+covers owners f i all j l e = rw (ap fingerprintOf e) at (all j l)
 
 -- once entry i owns its fingerprint too, so do those before it
 pub owned-more : (owners : List ℕ) (f : ℕ → Entry) (i : ℕ) → fingerprints ≤ length owners → ((j : ℕ) → j < i → Owned owners f j)
@@ -90,11 +90,11 @@ owned-more owners f i room all = below-more _ i before here
 -- ---- names held before
 
 -- no entry before entry i can have its name
-pub held-by-none : (f : ℕ → Entry) (i owner : ℕ) → Tells i f owner → owner ≡ 0 → nameHeld (f i .name) (tabulate i f) ≡ false
+pub held-by-none : (f : ℕ → Entry) (i owner : ℕ) → Covers i f owner → owner ≡ 0 → nameHeld (f i .name) (tabulate i f) ≡ false
 held-by-none f i owner r e = absent-below (f i .name) f i (λ j l. bytes-equal-false (f j .name) (f i .name) (λ q. ⊎-elim (λ h. omega (arith, h)) (λ h. omega (arith, h)) (r j l q)))
 
 -- one entry alone can
-pub held-by-one : (f : ℕ → Entry) (i owner o : ℕ) → Tells i f owner → i < several → o < i → owner ≡ o + 1
+pub held-by-one : (f : ℕ → Entry) (i owner o : ℕ) → Covers i f owner → i < several → o < i → owner ≡ o + 1
     → bytesEqual (f o .name) (f i .name) ≡ nameHeld (f i .name) (tabulate i f)
 held-by-one f i owner o r small l e = go (bytesEqual (f o .name) (f i .name)) refl
   where

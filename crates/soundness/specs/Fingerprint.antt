@@ -13,9 +13,16 @@ fingerprints = 1024
 abbrev pub several : ℕ
 several = 255
 
--- chosen so that names which differ in a digit or two seldom share a fingerprint
+-- the weights of places: from 1 to so many
+abbrev pub weights : ℕ
+weights = 256
+
+-- from one place's weight to the next, chosen so that names which differ in a digit or two seldom share a fingerprint
+abbrev pub weightStep : ℕ
+weightStep = 161
+
 abbrev pub weightAt : ℕ → ℕ
-weightAt k = 1 + k * 161 % 256
+weightAt k = 1 + k * weightStep % weights
 
 -- the first k bytes of a name, each by the weight of its place
 unfoldable pub weighed : ℕ → List ℕ → ℕ
@@ -25,6 +32,6 @@ weighed (suc k) name = (weighed k name + getD name k 0 * weightAt k) % 2 ^ 16
 unfoldable pub fingerprintOf : List ℕ → ℕ
 fingerprintOf name = weighed (length name) name % fingerprints
 
--- an owner tells which entry before entry i may have its name: entry j, as j + 1, or several
-abbrev pub Tells : ℕ → (ℕ → Entry) → ℕ → Type 0
-Tells i f owner = (j : ℕ) → j < i → f j .name ≡ f i .name → (owner ≡ j + 1) ⊎ (owner ≡ several)
+-- an owner covers each entry before entry i that has its name: it is entry j, as j + 1, or several
+abbrev pub Covers : ℕ → (ℕ → Entry) → ℕ → Type 0
+Covers i f owner = (j : ℕ) → j < i → f j .name ≡ f i .name → (owner ≡ j + 1) ⊎ (owner ≡ several)

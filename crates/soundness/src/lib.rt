@@ -9,7 +9,7 @@ ghost use Rattle.field.specs.Choice.{pick};
 ghost use Rattle.message.specs.Layout.{maxNameLength};
 ghost use Rattle.table.specs.Names.{nameHeld, namesDiffer};
 ghost use Rattle.table.specs.Table.{Holds, Named, entryAt, tabulate, maxEntries};
-ghost use Rattle.soundness.specs.Fingerprint.{fingerprints, several, weightAt, fingerprintOf, Tells};
+ghost use Rattle.soundness.specs.Fingerprint.{fingerprints, several, weightAt, fingerprintOf, Covers};
 ghost use Rattle.soundness.specs.Sound.{accepted, allBelow, soundEntry, soundTable, soundMarks};
 
 pub const CONNECTIONS: usize = 16;
@@ -23,6 +23,11 @@ pub const GREETED: u8 = 2;
 
 // A name's fingerprint is below this number.
 const FINGERPRINTS: usize = 1024;
+
+// The weights of places: from 1 to so many, and so far from one place to the next.
+const WEIGHTS: u16 = 256;
+
+const WEIGHT_STEP: u16 = 161;
 
 // The owner of a fingerprint that more than one entry has.
 const SEVERAL: u8 = 255;
@@ -79,11 +84,11 @@ fn entries_are_sound(heads: &[u16], bytes: &[u8], count: usize) -> bool
 }
 
 // A byte of a name by the weight of its place.
-fn weigh(b: u8, k: u16) -> u16
+fn weighted(b: u8, k: u16) -> u16
     requires { ⌜ k ≤ maxNameLength ⌝ }
     ensures { λ r. ⌜ r ≡ b * weightAt k ⌝ }
 {
-    (b as u16) * (1 + k * 161 % 256)
+    (b as u16) * (1 + k * WEIGHT_STEP % WEIGHTS)
 }
 
 // A number that equal names share.
@@ -94,7 +99,7 @@ fn fingerprint(name: &[u8]) -> usize
     let mut sum: u16 = 0;
     let mut k = 0;
     while k < name.len() {
-        sum = wrapping_add_u16(sum, weigh(name[k], k as u16));
+        sum = wrapping_add_u16(sum, weighted(name[k], k as u16));
         k += 1;
     }
     (sum as usize) % FINGERPRINTS
@@ -103,7 +108,7 @@ fn fingerprint(name: &[u8]) -> usize
 // Whether entry i's name is held by an entry before it, where its fingerprint has this owner.
 fn held_before(heads: &[u16], bytes: &[u8], i: usize, owner: u8) -> bool
     requires { ⌜ (i < maxEntries) × Named (i + 1) (now heads) (now bytes) ⌝ }
-    requires { ⌜ Tells i (entryAt (now heads) (now bytes)) owner ⌝ }
+    requires { ⌜ Covers i (entryAt (now heads) (now bytes)) owner ⌝ }
     ensures { λ r. ⌜ r ≡ nameHeld (entryAt (now (heads .entry)) (now (bytes .entry)) i .name) (tabulate i (entryAt (now (heads .entry)) (now (bytes .entry)))) ⌝ }
 {
     if owner == 0 {
@@ -123,7 +128,7 @@ fn held_before(heads: &[u16], bytes: &[u8], i: usize, owner: u8) -> bool
 }
 
 // The owner of a fingerprint once entry i has it too.
-fn joined(owner: u8, i: usize) -> u8
+fn next_owner(owner: u8, i: usize) -> u8
     requires { ⌜ i < maxEntries ⌝ }
     ensures { λ r. ⌜ r ≡ pick (eqb owner 0) (i + 1) several ⌝ }
 {
@@ -150,7 +155,7 @@ fn all_differ(heads: &[u16], bytes: &[u8], count: usize, owners: &mut [u8]) -> b
         if held_before(heads, bytes, i, owner) {
             return false;
         }
-        owners[f] = joined(owner, i);
+        owners[f] = next_owner(owner, i);
         i += 1;
     }
     true

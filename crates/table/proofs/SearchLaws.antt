@@ -7,7 +7,7 @@ use native.Mathlib.Nat.{add-zero}
 use native.Mathlib.Numerals.{add-one}
 use native.Mathlib.Omega.{arith}
 use lib.ListN.{length, getD, take, drop, length-drop}
-use lib.Seq.{length-take-le}
+use lib.Seq.{getD-take, getD-drop, length-take-le}
 use borrow.Author.Tests.{ltb-true, le-ltb, lt-ltb}
 use Rattle.message.specs.Layout.{Entry}
 use Rattle.field.specs.Octets.{bytesEqual}
@@ -29,6 +29,11 @@ unfolding entryAt
 name-length n heads bytes i m l =
     length-take-le (headField heads i 0) (drop (320 * i) bytes) (omega (arith, m .names-fit i l, m .holds .bytes-hold, length-drop (320 * i) bytes))
     ∙ first-field heads i
+
+pub name-byte : (heads bytes : List ℕ) (i k : ℕ) → k < getD heads (4 * i) 0 → getD (entryAt heads bytes i .name) k 0 ≡ getD bytes (320 * i + k) 0
+unfolding entryAt
+name-byte heads bytes i k h =
+    getD-take (headField heads i 0) (drop (320 * i) bytes) k 0 (omega (arith, first-field heads i)) ∙ getD-drop (320 * i) bytes k 0
 
 pub value-fits : (n : ℕ) (heads bytes : List ℕ) (i : ℕ) → Readable n heads bytes → i < n → getD heads (4 * i + 1) 0 ≤ 256
 value-fits n heads bytes i r l = r .values-fit i l

@@ -42,16 +42,27 @@ pub fn find_name(heads: &[u16], bytes: &[u8], count: usize, name: &[u8]) -> usiz
     ensures { λ r. ⌜ r ≡ holder (now (name .entry)) (tabulate count (entryAt (now (heads .entry)) (now (bytes .entry)))) ⌝ }
 {
     let mut i = 0;
-    while i < count {
+    let id = 'entries: loop {
+        if i >= count {
+            break 'entries count;
+        }
         let head = HEAD_SIZE * i;
-        let name_at = ENTRY_SIZE * i;
-        let name_end = name_at + (heads[head] as usize);
-        if field::same_bytes(&bytes[name_at..name_end], name) {
-            return i;
+        let n = heads[head] as usize;
+        if n == name.len() {
+            let from = ENTRY_SIZE * i;
+            let mut equal = true;
+            let mut k = 0;
+            while k < n {
+                equal = field::still_equal(equal, bytes[from + k], name[k]);
+                k += 1;
+            }
+            if equal {
+                break 'entries i;
+            }
         }
         i += 1;
-    }
-    count
+    };
+    id
 }
 
 // An update of a held ID, read with its stored type. `bytes` is lent for the contract.

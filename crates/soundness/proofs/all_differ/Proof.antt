@@ -9,7 +9,7 @@ use Rattle.table.specs.Names.{namesDiffer}
 use Rattle.table.specs.Table.{entryAt, tabulate}
 use Rattle.table.proofs.SearchLaws.{name-fits, name-length, name-part, named-less, differ-next, differ-held}
 use Rattle.soundness.specs.Fingerprint.{fingerprintOf}
-use Rattle.soundness.proofs.FingerprintLaws.{fingerprint-small, Owned, tells, owned-more}
+use Rattle.soundness.proofs.FingerprintLaws.{fingerprint-small, Owned, covers, owned-more}
 use Rattle.soundness.proofs.all_differ.Statement.{statement}
 use Rattle.soundness.proofs.all_differ.Tie as tie
 
@@ -90,7 +90,7 @@ held-before-requires : tie.Need-held-before-requires Inv-loop μ-loop
 held-before-requires c κs =
     let s = c .before .before .before .before in
     let a = s .before .before .before .before .before in
-    ((omega arith, named-less (a .args .count) (H s) (Y s) (I s + 1) (omega arith) (a .pre .0 .1)), rw (print (c .before)) (tells (s .before .loop .owners) (E s) (I s) (s .before .loop .inv .3)))
+    ((omega arith, named-less (a .args .count) (H s) (Y s) (I s + 1) (omega arith) (a .pre .0 .1)), rw (print (c .before)) (covers (s .before .loop .owners) (E s) (I s) (s .before .loop .inv .3)))
 
 same-length : tie.Need-same-length Inv-loop μ-loop
 same-length c = c .before .before .before .before .before .before .before .loop .inv .1
@@ -100,8 +100,8 @@ returns c =
     let s = c .before .before .before .before .before .before in
     sym (differ-held (s .before .before .before .before .before .args .count) (E s) (I s) (s .loop-test .taken) (sym (c .before .held-before .ensures) ∙ c .if1 .taken))
 
-joined-requires : tie.Need-joined-requires Inv-loop μ-loop
-joined-requires c κs = omega arith
+next-owner-requires : tie.Need-next-owner-requires Inv-loop μ-loop
+next-owner-requires c κs = omega arith
 
 slice-write-owners : tie.Need-slice-write-owners Inv-loop μ-loop
 slice-write-owners c = omega (arith, small (c .before .before .before .before), c .before .before .before .before .before .before .before .before .loop .inv .1)
@@ -119,7 +119,7 @@ loop-again c =
       omega arith,
       length-set (l .owners) _ _ ∙ l .inv .1,
       rw (differ-next (I s) (E s), l .inv .2, sym (c .before .before .held-before .ensures) ∙ c .before .if1 .left),
-      rw (c .joined .ensures, print (c .before .before .before .before)) (owned-more (l .owners) (E s) (I s) (omega (arith, l .inv .1)) (l .inv .3)),
+      rw (c .next-owner .ensures, print (c .before .before .before .before)) (owned-more (l .owners) (E s) (I s) (omega (arith, l .inv .1)) (l .inv .3)),
     )
 
 same-length-2 : tie.Need-same-length-2 Inv-loop μ-loop
@@ -151,7 +151,7 @@ all-differ-spec =
     held-before-requires
     same-length
     returns
-    joined-requires
+    next-owner-requires
     slice-write-owners
     add-i
     loop-less

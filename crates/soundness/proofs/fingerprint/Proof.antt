@@ -18,14 +18,14 @@ loop-holds : tie.Need-loop-holds Inv-loop μ-loop
 unfolding weighed
 loop-holds c = (omega arith, refl)
 
-shared-slice-read-weigh : tie.Need-shared-slice-read-weigh Inv-loop μ-loop
-shared-slice-read-weigh c = omega arith
+shared-slice-read-weighted : tie.Need-shared-slice-read-weighted Inv-loop μ-loop
+shared-slice-read-weighted c = omega arith
 
-cast-weigh : tie.Need-cast-weigh Inv-loop μ-loop
-cast-weigh c = omega arith
+cast-weighted : tie.Need-cast-weighted Inv-loop μ-loop
+cast-weighted c = omega arith
 
-weigh-requires : tie.Need-weigh-requires Inv-loop μ-loop
-weigh-requires c κs = omega arith
+weighted-requires : tie.Need-weighted-requires Inv-loop μ-loop
+weighted-requires c κs = omega arith
 
 wrapping-add-u16-requires : tie.Need-wrapping-add-u16-requires Inv-loop μ-loop
 wrapping-add-u16-requires c κs = search needs
@@ -40,7 +40,7 @@ loop-again : tie.Need-loop-again Inv-loop μ-loop
 loop-again c =
     let l = c .before .before .before .before in
     let name = l .before .before .args .name .now in
-    (omega arith, c .wrapping-add-u16 .ensures ∙ rw (c .before .weigh .ensures, l .loop .inv .1) (weighed-next (l .loop .k) name))
+    (omega arith, c .wrapping-add-u16 .ensures ∙ rw (c .before .weighted .ensures, l .loop .inv .1) (weighed-next (l .loop .k) name))
 
 cast-result : tie.Need-cast-result Inv-loop μ-loop
 cast-result c =
@@ -61,9 +61,9 @@ fingerprint-spec =
     Inv-loop
     μ-loop
     loop-holds
-    shared-slice-read-weigh
-    cast-weigh
-    weigh-requires
+    shared-slice-read-weighted
+    cast-weighted
+    weighted-requires
     wrapping-add-u16-requires
     add-k
     loop-less

@@ -1,8 +1,8 @@
 use native.Mathlib.Omega.{arith}
 use borrow.Author.Needs.{needs}
 use Rattle.soundness.proofs.FingerprintLaws.{weight-fits}
-use Rattle.soundness.proofs.weigh.Statement.{statement}
-use Rattle.soundness.proofs.weigh.Tie as tie
+use Rattle.soundness.proofs.weighted.Statement.{statement}
+use Rattle.soundness.proofs.weighted.Tie as tie
 
 mul-result : tie.Need-mul-result
 mul-result c = search needs
@@ -16,5 +16,5 @@ mul-result-2 c = omega (arith, weight-fits (c .args .b) (c .args .k) (omega arit
 returns : tie.Need-returns
 returns c = search needs
 
-pub weigh-spec : {M : Type 1} → statement M
-weigh-spec = tie.close (tie.spec mul-result add-result mul-result-2 returns)
+pub weighted-spec : {M : Type 1} → statement M
+weighted-spec = tie.close (tie.spec mul-result add-result mul-result-2 returns)
