@@ -1,10 +1,10 @@
 -- The two calls that every boundary function of this crate makes, each as one step of a walk: the heads are lent as `&mut [Head]` (ℓ, κ, q, γ; at (b, o), m of them), and `flat`, a local array of 256 numbers at l, stands in the context as its elements (`Lend.antt`'s `filled`).
---     calls-load       from [flat ys; heads hs; the token of κ; …] to [flat (loaded … hs ys); heads hs; the token of κ; …], and the machine value returned is the lesser of 64 and the number of heads
+--     calls-load       from [flat ys; heads hs; the token of κ; …] to [flat (loaded 64 hs ys); heads hs; the token of κ; …]
 --     calls-load-shr   the same where the heads are lent as `&[Head]`
 --     calls-store      from [flat ys; heads hs; the token of κ; …] to [flat ys; heads (stored … ys hs); the token of κ; …], for the number that the call answers
 -- The operands are read in the context [what the callee asks; two things that are kept; …], so what stood at position i stands at i still.
 -- All that they know of `load` and `store` is that each meets its contract. Assumes `Given`.
-use mathlib.Core.Path.{_≡_, refl, subst}
+use mathlib.Core.Path.{_≡_, refl}
 use Prim.Native.Nat.{ℕ, _≤_, _<_, _^_}
 use native.Mathlib.Omega.{arith}
 use mathlib.Core.List.{List, [], _∷_}
@@ -29,7 +29,7 @@ use denote.RattleType.{RattleType}
 use denote.Memory.{mem}
 use denote.Laws.{Is, shows}
 use denote.Plain.{uint-makes}
-use denote.Builtin.{u8, u16, usize, unit}
+use denote.Builtin.{u8, u16, unit}
 use denote.Ref.{RefT}
 use denote.Slice.{sliceVal, MutSlice, ShrSlice, Room, shr-slice-copy}
 use denote.Lend.{Held}
@@ -40,7 +40,7 @@ use denote.Triple.Call.{calls-at}
 use denote.Triple.Clauses.{ensured, lasts}
 use denote.Triple.Walked.{says}
 use Rattle.nt2.specs.declared.Head.{Head}
-use Rattle.nt2.specs.Heads.{lesser, changed, loaded, stored}
+use Rattle.nt2.specs.Heads.{changed, loaded, stored}
 use Rattle.nt2.proofs.Head as T
 use Rattle.nt2.proofs.Again.{LentAgain}
 use Rattle.nt2.proofs.Lend.{Parts, SharedAgain, relend, unlend, reshare, unshare, lend-cells, unlend-cells, share-cells, unshare-cells}
@@ -73,7 +73,7 @@ module _ {M : Type 1} (𝓤 : URA M) (H : Heap 𝓤) (A : Atoms 𝓤) (at-mem : 
   abbrev pub Store : Contract 𝓤
   Store = tripleOf 𝓤 H A store′.signature (store′.spec 𝓤 H A at-mem run)
 
-module _ {M : Type 1} (𝓤 : URA M) (H : Heap 𝓤) (A : Atoms 𝓤) (W : Given 𝓤 H A) (at-mem : Memory → SProp 𝓤) (run : Routine → Fun 𝓤) (b o m : ℕ) (hs : List Head) (l : ℕ) (ys : List ℕ) (len : length ys ≡ 256) where
+module _ {M : Type 1} (𝓤 : URA M) (H : Heap 𝓤) (A : Atoms 𝓤) (W : Given 𝓤 H A) (at-mem : Memory → SProp 𝓤) (run : Routine → Fun 𝓤) (b o m : ℕ) (hs : List Head) (enough : 64 ≤ length hs) (l : ℕ) (ys : List ℕ) (len : length ys ≡ 256) where
   abbrev R : RattleType
   R = T.the-row
 
@@ -97,61 +97,61 @@ module _ {M : Type 1} (𝓤 : URA M) (H : Heap 𝓤) (A : Atoms 𝓤) (W : Given
       (Load 𝓤 H A at-mem run .pre (to-load κ q δ ν′ δ′))
   goes-load κ q δ ν′ δ′ =
       qed W ((‵ (flft κ q) ⊛ ‵ (flft (ν′ ∷ []) fullShare)) ∷ ‵ (ShrSlice (named 0) κ R .own (at-list b o δ hs) (s ∷ [])) ∷ ‵ (MutSlice (named 1) (ν′ ∷ []) u16 .own (at-list l 0 δ′ ys) (f ∷ [])) ∷ []) ∵
-      says ! wide $ split ! $ nothing ! $ move ! (2 ∷ 0 ∷ []) $ join ! $ move ! (1 ∷ 0 ∷ []) $ join ! $ frame ! $ nothing ! $ move ! (2 ∷ 0 ∷ []) $ fjoin ! $ move ! (1 ∷ 0 ∷ []) $ fjoin ! $ done !
+      says ! (enough, wide) $ split ! $ nothing ! $ move ! (2 ∷ 0 ∷ []) $ join ! $ move ! (1 ∷ 0 ∷ []) $ join ! $ frame ! $ nothing ! $ move ! (2 ∷ 0 ∷ []) $ fjoin ! $ move ! (1 ∷ 0 ∷ []) $ fjoin ! $ done !
 
   goes-store : (number : ℕ) → number < 2 ^ 8 → (ν : ℕ) (δ : GName) (ν′ : ℕ) (δ′ : GName) → ent 𝓤 (sep 𝓤 (sep 𝓤 (A .lft (ν ∷ []) fullShare) (A .lft (ν′ ∷ []) fullShare)) (sep 𝓤 (sem 𝓤 H A (ShrSlice (named 0) (ν ∷ []) u16 .own (at-list l 0 δ ys) (f ∷ []))) (sem 𝓤 H A (MutSlice (named 1) (ν′ ∷ []) R .own (at-list b o δ′ hs) (s ∷ [])))))
       (Store 𝓤 H A at-mem run .pre (to-store number ν δ ν′ δ′))
   goes-store number byte ν δ ν′ δ′ =
       qed W ((‵ (flft (ν ∷ []) fullShare) ⊛ ‵ (flft (ν′ ∷ []) fullShare)) ∷ ‵ (ShrSlice (named 0) (ν ∷ []) u16 .own (at-list l 0 δ ys) (f ∷ [])) ∷ ‵ (MutSlice (named 1) (ν′ ∷ []) R .own (at-list b o δ′ hs) (s ∷ [])) ∷ []) ∵
-      says ! wide $ split ! $ nothing ! $ move ! (2 ∷ 0 ∷ []) $ join ! $ move ! (1 ∷ 0 ∷ []) $ join ! $ frame ! $ nothing ! $ move ! (2 ∷ 0 ∷ []) $ fjoin ! $ move ! (1 ∷ 0 ∷ []) $ fjoin ! $ owned ! u8 (Is u8) (uint-makes 𝓤 H A W w8) number _ (refl, byte) $ fjoin ! $ done !
+      says ! (enough, wide) $ split ! $ nothing ! $ move ! (2 ∷ 0 ∷ []) $ join ! $ move ! (1 ∷ 0 ∷ []) $ join ! $ frame ! $ nothing ! $ move ! (2 ∷ 0 ∷ []) $ fjoin ! $ move ! (1 ∷ 0 ∷ []) $ fjoin ! $ owned ! u8 (Is u8) (uint-makes 𝓤 H A W w8) number _ (refl, byte) $ fjoin ! $ done !
 
 module _ {M : Type 1} {𝓤 : URA M} {H : Heap 𝓤} {A : Atoms 𝓤} {K : Type 0} {W : Given 𝓤 H A} {Γ : List (Item 𝓤)} {E : Env 𝓤 H} {C : Calls 𝓤 H} {Λ : Loops 𝓤 H} {p : Post 𝓤 H} {xs : List Operand} {d : Place} {rest : Body} where
   pub calls-load : (t : K) → FmC 𝓤 H (W .laws) C → (at-mem : Memory → SProp 𝓤) (run : Routine → Fun 𝓤) → Triple 𝓤 (C #nt2·load) (Load 𝓤 H A at-mem run)
-      → (ℓ : Lifetime) (κ : Lft) (q : Share) (γ : GName) (b o m : ℕ) (hs : List Head) → length hs ≡ m → Room T.the-row m → (l : ℕ) (ys : List ℕ) (len : length ys ≡ 256)
-      → ((ν : ℕ) (δ : GName) (ν′ : ℕ) (δ′ : GName) → Opds K W (raw (Load 𝓤 H A at-mem run .pre (to-load 𝓤 H A W at-mem run b o m hs l ys len (ν ∷ []) fullShare δ ν′ δ′)) ∷ ‵ (flent (ν′ ∷ []) (Held u16 (length ys) l 0 δ′)) ∷ ‵ (SharedAgain T.the-row κ (ν ∷ []) q γ b o hs) ∷ Γ) E xs (sliceVal (b, o) m ∷ sliceVal (l, 0) 256 ∷ []))
-      → ((w : Val) → Is usize (lesser (length hs)) (w ∷ []) → Seq K W (FlatI l (loaded (lesser (length hs)) hs ys) ∷ HeadsI ℓ κ γ b o m hs ∷ ‵ (flft κ q) ∷ Γ) (lands C Λ E d w rest p))
+      → (ℓ : Lifetime) (κ : Lft) (q : Share) (γ : GName) (b o m : ℕ) (hs : List Head) → length hs ≡ m → Room T.the-row m → (enough : 64 ≤ length hs) (l : ℕ) (ys : List ℕ) (len : length ys ≡ 256)
+      → ((ν : ℕ) (δ : GName) (ν′ : ℕ) (δ′ : GName) → Opds K W (raw (Load 𝓤 H A at-mem run .pre (to-load 𝓤 H A W at-mem run b o m hs enough l ys len (ν ∷ []) fullShare δ ν′ δ′)) ∷ ‵ (flent (ν′ ∷ []) (Held u16 (length ys) l 0 δ′)) ∷ ‵ (SharedAgain T.the-row κ (ν ∷ []) q γ b o hs) ∷ Γ) E xs (sliceVal (b, o) m ∷ sliceVal (l, 0) 256 ∷ []))
+      → ((w : Val) → Is unit tt (w ∷ []) → Seq K W (FlatI l (loaded 64 hs ys) ∷ HeadsI ℓ κ γ b o m hs ∷ ‵ (flft κ q) ∷ Γ) (lands C Λ E d w rest p))
       → Seq K W (FlatI l ys ∷ HeadsI ℓ κ γ b o m hs ∷ ‵ (flft κ q) ∷ Γ) (runs C Λ E (seq (call #nt2·load xs d) rest) p)
-  calls-load t fm at-mem run known ℓ κ q γ b o m hs count room l ys len ops k =
+  calls-load t fm at-mem run known ℓ κ q γ b o m hs count room enough l ys len ops k =
       move t (1 ∷ 2 ∷ []) $ reshare t tt T.the-row b o hs m count ℓ (named 0) κ q γ room (λ ν δ. move t (3 ∷ []) $ lend-cells t tt u16 l 0 ys 256 len (named 1) room-256 (λ ν′ δ′.
-      move t (3 ∷ 0 ∷ []) $ join t $ move t (0 ∷ 3 ∷ 1 ∷ []) $ use3 W (raw (Load 𝓤 H A at-mem run .pre (to-load 𝓤 H A W at-mem run b o m hs l ys len (ν ∷ []) fullShare δ ν′ δ′))) (goes-load 𝓤 H A W at-mem run b o m hs l ys len (ν ∷ []) fullShare δ ν′ δ′) $
-      calls-at t fm (Load 𝓤 H A at-mem run) known (to-load 𝓤 H A W at-mem run b o m hs l ys len (ν ∷ []) fullShare δ ν′ δ′) (ops ν δ ν′ δ′) (λ w.
-      use1 W (later (some (λ (r : ℕ). ((‵ (flft (ν ∷ []) fullShare) ⊛ ‵ (flft (ν′ ∷ []) fullShare) ⊛ ‵ ftrue) ⊛ ‵ (usize .own r (w ∷ []))) ⊛ raw (ensured 𝓤 H A load′.ended (load′.clauses 𝓤 H A at-mem run) (ν ∷ [], (ν′ ∷ [], tt)) (at-list b o δ hs, (at-list l 0 δ′ ys, tt)) tt r)))) (id⊢ 𝓤 _) $ await t tt $ pick t (λ r.
-      split t $ move t (1 ∷ []) $ use1 W (some (λ (zs : Unit {0} × (List ℕ × Unit {0})). ‵ (lasts load′.ended (ν ∷ [], (ν′ ∷ [], tt)) (at-list b o δ hs, (at-list l 0 δ′ ys, tt)) zs) ⊛ raw (fact 𝓤 ((r ≡ lesser (length hs)) × (zs .1 .0 ≡ loaded (lesser (length hs)) hs ys))))) (id⊢ 𝓤 _) $ pick t (λ zs.
-      split t $ move t (1 ∷ []) $ heard t ((r ≡ lesser (length hs)) × (zs .1 .0 ≡ loaded (lesser (length hs)) hs ys)) (λ e. fsplit t $ drop t $ fsplit t $ fsplit t $ move t (1 ∷ []) $ feqL t (λ _.
-      move t (2 ∷ []) $ split t $ move t (1 ∷ []) $ peeks t usize (Is usize) (shows 𝓤 H A usize) r (w ∷ []) (λ is. drop t $
+      move t (3 ∷ 0 ∷ []) $ join t $ move t (0 ∷ 3 ∷ 1 ∷ []) $ use3 W (raw (Load 𝓤 H A at-mem run .pre (to-load 𝓤 H A W at-mem run b o m hs enough l ys len (ν ∷ []) fullShare δ ν′ δ′))) (goes-load 𝓤 H A W at-mem run b o m hs enough l ys len (ν ∷ []) fullShare δ ν′ δ′) $
+      calls-at t fm (Load 𝓤 H A at-mem run) known (to-load 𝓤 H A W at-mem run b o m hs enough l ys len (ν ∷ []) fullShare δ ν′ δ′) (ops ν δ ν′ δ′) (λ w.
+      use1 W (later (some (λ (r : Unit {0}). ((‵ (flft (ν ∷ []) fullShare) ⊛ ‵ (flft (ν′ ∷ []) fullShare) ⊛ ‵ ftrue) ⊛ ‵ (unit .own r (w ∷ []))) ⊛ raw (ensured 𝓤 H A load′.ended (load′.clauses 𝓤 H A at-mem run) (ν ∷ [], (ν′ ∷ [], tt)) (at-list b o δ hs, (at-list l 0 δ′ ys, tt)) tt r)))) (id⊢ 𝓤 _) $ await t tt $ pick t (λ r.
+      split t $ move t (1 ∷ []) $ use1 W (some (λ (zs : Unit {0} × (List ℕ × Unit {0})). ‵ (lasts load′.ended (ν ∷ [], (ν′ ∷ [], tt)) (at-list b o δ hs, (at-list l 0 δ′ ys, tt)) zs) ⊛ raw (fact 𝓤 (zs .1 .0 ≡ loaded 64 hs ys)))) (id⊢ 𝓤 _) $ pick t (λ zs.
+      split t $ move t (1 ∷ []) $ heard t (zs .1 .0 ≡ loaded 64 hs ys) (λ e. fsplit t $ drop t $ fsplit t $ fsplit t $ move t (1 ∷ []) $ feqL t (λ _.
+      move t (2 ∷ []) $ split t $ move t (1 ∷ []) $ peeks t unit (Is unit) (shows 𝓤 H A unit) r (w ∷ []) (λ is. drop t $
       -- [the tokens; finally; true; the lender's part; what is kept of heads; …]
       split t $ move t (0 ∷ 5 ∷ []) $ unshare t tt T.the-row b o hs m count ℓ (named 0) κ q γ ν room $ move t (2 ∷ []) $ split t $ move t (0 ∷ 6 ∷ 4 ∷ []) $ unlend-cells t tt u16 l 0 ys 256 len (named 1) room-256 ν′ δ′ (zs .1 .0) $
-      move t (1 ∷ []) $ drop t $ move t (3 ∷ []) $ drop t $ rewrite t 0 (λ (u : List ℕ). FlatI l u) (e .1) refl $ k w (subst (λ (n : ℕ). Is usize n (w ∷ [])) (e .0) is)))))))))
+      move t (1 ∷ []) $ drop t $ move t (3 ∷ []) $ drop t $ rewrite t 0 (λ (u : List ℕ). FlatI l u) e refl $ k w is))))))))
 
   pub calls-load-shr : (t : K) → FmC 𝓤 H (W .laws) C → (at-mem : Memory → SProp 𝓤) (run : Routine → Fun 𝓤) → Triple 𝓤 (C #nt2·load) (Load 𝓤 H A at-mem run)
-      → (ℓ : Lifetime) (κ : Lft) (q : Share) (γ : GName) (b o m : ℕ) (hs : List Head) (l : ℕ) (ys : List ℕ) (len : length ys ≡ 256)
-      → ((ν′ : ℕ) (δ′ : GName) → Opds K W (raw (Load 𝓤 H A at-mem run .pre (to-load 𝓤 H A W at-mem run b o m hs l ys len κ q γ ν′ δ′)) ∷ ‵ (flent (ν′ ∷ []) (Held u16 (length ys) l 0 δ′)) ∷ SharedI ℓ κ γ b o m hs ∷ Γ) E xs (sliceVal (b, o) m ∷ sliceVal (l, 0) 256 ∷ []))
-      → ((w : Val) → Is usize (lesser (length hs)) (w ∷ []) → Seq K W (FlatI l (loaded (lesser (length hs)) hs ys) ∷ SharedI ℓ κ γ b o m hs ∷ ‵ (flft κ q) ∷ Γ) (lands C Λ E d w rest p))
+      → (ℓ : Lifetime) (κ : Lft) (q : Share) (γ : GName) (b o m : ℕ) (hs : List Head) (enough : 64 ≤ length hs) (l : ℕ) (ys : List ℕ) (len : length ys ≡ 256)
+      → ((ν′ : ℕ) (δ′ : GName) → Opds K W (raw (Load 𝓤 H A at-mem run .pre (to-load 𝓤 H A W at-mem run b o m hs enough l ys len κ q γ ν′ δ′)) ∷ ‵ (flent (ν′ ∷ []) (Held u16 (length ys) l 0 δ′)) ∷ SharedI ℓ κ γ b o m hs ∷ Γ) E xs (sliceVal (b, o) m ∷ sliceVal (l, 0) 256 ∷ []))
+      → ((w : Val) → Is unit tt (w ∷ []) → Seq K W (FlatI l (loaded 64 hs ys) ∷ SharedI ℓ κ γ b o m hs ∷ ‵ (flft κ q) ∷ Γ) (lands C Λ E d w rest p))
       → Seq K W (FlatI l ys ∷ SharedI ℓ κ γ b o m hs ∷ ‵ (flft κ q) ∷ Γ) (runs C Λ E (seq (call #nt2·load xs d) rest) p)
-  calls-load-shr t fm at-mem run known ℓ κ q γ b o m hs l ys len ops k =
+  calls-load-shr t fm at-mem run known ℓ κ q γ b o m hs enough l ys len ops k =
       move t (1 ∷ []) $ use1 W (SharedI ℓ κ γ b o m hs ⊛ SharedI ℓ κ γ b o m hs) (shr-slice-copy 𝓤 H A W ℓ κ T.the-row .twice (at-list b o γ hs) (sliceVal (b, o) m ∷ [])) $ split t $ move t (2 ∷ []) $ lend-cells t tt u16 l 0 ys 256 len (named 1) room-256 (λ ν′ δ′.
-      move t (5 ∷ 0 ∷ []) $ join t $ move t (0 ∷ 3 ∷ 1 ∷ []) $ use3 W (raw (Load 𝓤 H A at-mem run .pre (to-load 𝓤 H A W at-mem run b o m hs l ys len κ q γ ν′ δ′))) (goes-load 𝓤 H A W at-mem run b o m hs l ys len κ q γ ν′ δ′) $
-      calls-at t fm (Load 𝓤 H A at-mem run) known (to-load 𝓤 H A W at-mem run b o m hs l ys len κ q γ ν′ δ′) (ops ν′ δ′) (λ w.
-      use1 W (later (some (λ (r : ℕ). ((‵ (flft κ q) ⊛ ‵ (flft (ν′ ∷ []) fullShare) ⊛ ‵ ftrue) ⊛ ‵ (usize .own r (w ∷ []))) ⊛ raw (ensured 𝓤 H A load′.ended (load′.clauses 𝓤 H A at-mem run) (κ, (ν′ ∷ [], tt)) (at-list b o γ hs, (at-list l 0 δ′ ys, tt)) tt r)))) (id⊢ 𝓤 _) $ await t tt $ pick t (λ r.
-      split t $ move t (1 ∷ []) $ use1 W (some (λ (zs : Unit {0} × (List ℕ × Unit {0})). ‵ (lasts load′.ended (κ, (ν′ ∷ [], tt)) (at-list b o γ hs, (at-list l 0 δ′ ys, tt)) zs) ⊛ raw (fact 𝓤 ((r ≡ lesser (length hs)) × (zs .1 .0 ≡ loaded (lesser (length hs)) hs ys))))) (id⊢ 𝓤 _) $ pick t (λ zs.
-      split t $ move t (1 ∷ []) $ heard t ((r ≡ lesser (length hs)) × (zs .1 .0 ≡ loaded (lesser (length hs)) hs ys)) (λ e. fsplit t $ drop t $ fsplit t $ fsplit t $ move t (1 ∷ []) $ feqL t (λ _.
-      move t (2 ∷ []) $ split t $ move t (1 ∷ []) $ peeks t usize (Is usize) (shows 𝓤 H A usize) r (w ∷ []) (λ is. drop t $
+      move t (5 ∷ 0 ∷ []) $ join t $ move t (0 ∷ 3 ∷ 1 ∷ []) $ use3 W (raw (Load 𝓤 H A at-mem run .pre (to-load 𝓤 H A W at-mem run b o m hs enough l ys len κ q γ ν′ δ′))) (goes-load 𝓤 H A W at-mem run b o m hs enough l ys len κ q γ ν′ δ′) $
+      calls-at t fm (Load 𝓤 H A at-mem run) known (to-load 𝓤 H A W at-mem run b o m hs enough l ys len κ q γ ν′ δ′) (ops ν′ δ′) (λ w.
+      use1 W (later (some (λ (r : Unit {0}). ((‵ (flft κ q) ⊛ ‵ (flft (ν′ ∷ []) fullShare) ⊛ ‵ ftrue) ⊛ ‵ (unit .own r (w ∷ []))) ⊛ raw (ensured 𝓤 H A load′.ended (load′.clauses 𝓤 H A at-mem run) (κ, (ν′ ∷ [], tt)) (at-list b o γ hs, (at-list l 0 δ′ ys, tt)) tt r)))) (id⊢ 𝓤 _) $ await t tt $ pick t (λ r.
+      split t $ move t (1 ∷ []) $ use1 W (some (λ (zs : Unit {0} × (List ℕ × Unit {0})). ‵ (lasts load′.ended (κ, (ν′ ∷ [], tt)) (at-list b o γ hs, (at-list l 0 δ′ ys, tt)) zs) ⊛ raw (fact 𝓤 (zs .1 .0 ≡ loaded 64 hs ys)))) (id⊢ 𝓤 _) $ pick t (λ zs.
+      split t $ move t (1 ∷ []) $ heard t (zs .1 .0 ≡ loaded 64 hs ys) (λ e. fsplit t $ drop t $ fsplit t $ fsplit t $ move t (1 ∷ []) $ feqL t (λ _.
+      move t (2 ∷ []) $ split t $ move t (1 ∷ []) $ peeks t unit (Is unit) (shows 𝓤 H A unit) r (w ∷ []) (λ is. drop t $
       -- [the tokens; finally; true; the lender's part; heads; …]
       split t $ move t (1 ∷ []) $ split t $ move t (0 ∷ 5 ∷ 3 ∷ []) $ unlend-cells t tt u16 l 0 ys 256 len (named 1) room-256 ν′ δ′ (zs .1 .0) $
-      move t (1 ∷ []) $ drop t $ move t (2 ∷ []) $ drop t $ move t (0 ∷ 2 ∷ 1 ∷ []) $ rewrite t 0 (λ (u : List ℕ). FlatI l u) (e .1) refl $ k w (subst (λ (n : ℕ). Is usize n (w ∷ [])) (e .0) is))))))))
+      move t (1 ∷ []) $ drop t $ move t (2 ∷ []) $ drop t $ move t (0 ∷ 2 ∷ 1 ∷ []) $ rewrite t 0 (λ (u : List ℕ). FlatI l u) e refl $ k w is)))))))
 
   pub calls-store : (t : K) → FmC 𝓤 H (W .laws) C → (at-mem : Memory → SProp 𝓤) (run : Routine → Fun 𝓤) → Triple 𝓤 (C #nt2·store) (Store 𝓤 H A at-mem run)
-      → (ℓ : Lifetime) (κ : Lft) (q : Share) (γ : GName) (b o m : ℕ) (hs : List Head) → length hs ≡ m → Room T.the-row m → (l : ℕ) (ys : List ℕ) (len : length ys ≡ 256) (number : ℕ) → number < 2 ^ 8
-      → ((ν : ℕ) (δ : GName) (ν′ : ℕ) (δ′ : GName) → Opds K W (raw (Store 𝓤 H A at-mem run .pre (to-store 𝓤 H A W at-mem run b o m hs l ys len number ν δ ν′ δ′)) ∷ ‵ (LentAgain T.the-row κ (ν′ ∷ []) q γ b o δ′ hs) ∷ ‵ (flent (ν ∷ []) (Parts u16 ys l 0)) ∷ Γ) E xs (vint w8 number ∷ sliceVal (l, 0) 256 ∷ sliceVal (b, o) m ∷ []))
-      → ((w : Val) → Is unit tt (w ∷ []) → Seq K W (FlatI l ys ∷ HeadsI ℓ κ γ b o m (stored (changed number (length hs)) ys hs) ∷ ‵ (flft κ q) ∷ Γ) (lands C Λ E d w rest p))
+      → (ℓ : Lifetime) (κ : Lft) (q : Share) (γ : GName) (b o m : ℕ) (hs : List Head) → length hs ≡ m → Room T.the-row m → (enough : 64 ≤ length hs) (l : ℕ) (ys : List ℕ) (len : length ys ≡ 256) (number : ℕ) → number < 2 ^ 8
+      → ((ν : ℕ) (δ : GName) (ν′ : ℕ) (δ′ : GName) → Opds K W (raw (Store 𝓤 H A at-mem run .pre (to-store 𝓤 H A W at-mem run b o m hs enough l ys len number ν δ ν′ δ′)) ∷ ‵ (LentAgain T.the-row κ (ν′ ∷ []) q γ b o δ′ hs) ∷ ‵ (flent (ν ∷ []) (Parts u16 ys l 0)) ∷ Γ) E xs (vint w8 number ∷ sliceVal (l, 0) 256 ∷ sliceVal (b, o) m ∷ []))
+      → ((w : Val) → Is unit tt (w ∷ []) → Seq K W (FlatI l ys ∷ HeadsI ℓ κ γ b o m (stored (changed number) ys hs) ∷ ‵ (flft κ q) ∷ Γ) (lands C Λ E d w rest p))
       → Seq K W (FlatI l ys ∷ HeadsI ℓ κ γ b o m hs ∷ ‵ (flft κ q) ∷ Γ) (runs C Λ E (seq (call #nt2·store xs d) rest) p)
-  calls-store t fm at-mem run known ℓ κ q γ b o m hs count room l ys len number byte ops k =
+  calls-store t fm at-mem run known ℓ κ q γ b o m hs count room enough l ys len number byte ops k =
       share-cells t tt u16 l 0 ys 256 len (named 0) room-256 (λ ν δ. move t (3 ∷ 4 ∷ []) $ relend t tt T.the-row b o hs m count ℓ (named 1) κ q γ (λ ν′ δ′.
-      move t (3 ∷ 0 ∷ []) $ join t $ move t (0 ∷ 3 ∷ 1 ∷ []) $ use3 W (raw (Store 𝓤 H A at-mem run .pre (to-store 𝓤 H A W at-mem run b o m hs l ys len number ν δ ν′ δ′))) (goes-store 𝓤 H A W at-mem run b o m hs l ys len number byte ν δ ν′ δ′) $
-      calls-at t fm (Store 𝓤 H A at-mem run) known (to-store 𝓤 H A W at-mem run b o m hs l ys len number ν δ ν′ δ′) (ops ν δ ν′ δ′) (λ w.
+      move t (3 ∷ 0 ∷ []) $ join t $ move t (0 ∷ 3 ∷ 1 ∷ []) $ use3 W (raw (Store 𝓤 H A at-mem run .pre (to-store 𝓤 H A W at-mem run b o m hs enough l ys len number ν δ ν′ δ′))) (goes-store 𝓤 H A W at-mem run b o m hs enough l ys len number byte ν δ ν′ δ′) $
+      calls-at t fm (Store 𝓤 H A at-mem run) known (to-store 𝓤 H A W at-mem run b o m hs enough l ys len number ν δ ν′ δ′) (ops ν δ ν′ δ′) (λ w.
       use1 W (later (some (λ (r : Unit {0}). ((‵ (flft (ν ∷ []) fullShare) ⊛ ‵ (flft (ν′ ∷ []) fullShare) ⊛ ‵ ftrue) ⊛ ‵ (unit .own r (w ∷ []))) ⊛ raw (ensured 𝓤 H A store′.ended (store′.clauses 𝓤 H A at-mem run) (ν ∷ [], (ν′ ∷ [], tt)) (number, (at-list l 0 δ ys, (at-list b o δ′ hs, tt))) tt r)))) (id⊢ 𝓤 _) $ await t tt $ pick t (λ r.
-      split t $ move t (1 ∷ []) $ use1 W (some (λ (zs : Unit {0} × (Unit {0} × (List Head × Unit {0}))). ‵ (lasts store′.ended (ν ∷ [], (ν′ ∷ [], tt)) (number, (at-list l 0 δ ys, (at-list b o δ′ hs, tt))) zs) ⊛ raw (fact 𝓤 (zs .1 .1 .0 ≡ stored (changed number (length hs)) ys hs)))) (id⊢ 𝓤 _) $ pick t (λ zs.
-      split t $ move t (1 ∷ []) $ heard t (zs .1 .1 .0 ≡ stored (changed number (length hs)) ys hs) (λ e. fsplit t $ drop t $ fsplit t $ drop t $ fsplit t $ fsplit t $ move t (1 ∷ []) $ feqL t (λ g.
+      split t $ move t (1 ∷ []) $ use1 W (some (λ (zs : Unit {0} × (Unit {0} × (List Head × Unit {0}))). ‵ (lasts store′.ended (ν ∷ [], (ν′ ∷ [], tt)) (number, (at-list l 0 δ ys, (at-list b o δ′ hs, tt))) zs) ⊛ raw (fact 𝓤 (zs .1 .1 .0 ≡ stored (changed number) ys hs)))) (id⊢ 𝓤 _) $ pick t (λ zs.
+      split t $ move t (1 ∷ []) $ heard t (zs .1 .1 .0 ≡ stored (changed number) ys hs) (λ e. fsplit t $ drop t $ fsplit t $ drop t $ fsplit t $ fsplit t $ move t (1 ∷ []) $ feqL t (λ g.
       move t (2 ∷ []) $ split t $ move t (1 ∷ []) $ peeks t unit (Is unit) (shows 𝓤 H A unit) r (w ∷ []) (λ is. drop t $
       -- [the tokens; finally; true; what is kept of heads; the lender's part; …]
       split t $ move t (0 ∷ 5 ∷ []) $ unshare-cells t tt u16 l 0 ys 256 len (named 0) room-256 ν $ move t (1 ∷ []) $ split t $ move t (0 ∷ 5 ∷ 3 ∷ []) $ unlend t tt T.the-row b o hs m count ℓ (named 1) κ q γ ν′ δ′ (zs .1 .1 .0) room g $

@@ -8,19 +8,10 @@ use mathlib.Core.Logic.{_≢_, _⊎_, inl, inr}
 use mathlib.Core.List.{List, [], _∷_}
 use lib.ListN.{length, getD, set, take, drop, replicate, length-set, length-take, length-drop, length-replicate}
 use lib.Seq.{getD-set-same, getD-set-other, getD-take, getD-drop, ext-getD}
-use borrow.Author.Tests.{lt-ltb, le-ltb, eqb-false}
-use Rattle.field.specs.Choice.{pick}
+use borrow.Author.Tests.{eqb-false}
 use Rattle.field.proofs.ChoiceLaws.{by-test}
 use Rattle.nt2.specs.declared.Head.{Head}
-use Rattle.nt2.specs.Heads.{numbers, flatHeads, lesser, changed, noHead, withHead, headAt, loaded, stored}
-
-pub lesser-below : (n : ℕ) → n < 64 → lesser n ≡ n
-unfolding lesser pick
-lesser-below n h = rw (lt-ltb n 64 h)
-
-pub lesser-above : (n : ℕ) → 64 ≤ n → lesser n ≡ 64
-unfolding lesser pick
-lesser-above n h = rw (le-ltb n 64 h)
+use Rattle.nt2.specs.Heads.{numbers, flatHeads, changed, noHead, withHead, headAt, loaded, stored}
 
 pub length-loaded : (k : ℕ) (hs : List Head) (flat : List ℕ) → length (loaded k hs flat) ≡ length flat
 unfolding loaded
@@ -141,20 +132,10 @@ stored-loaded k hs flat a b = ext-getD noHead (stored k (loaded k hs flat) hs) h
   | inr m ↦ stored-past k (loaded k hs flat) hs i m
 ])
 
-pub lesser-small : (n : ℕ) → lesser n ≤ 64
-lesser-small n = elim (order n 64) [ inl l ↦ (omega (arith, lesser-below n l)) | inr l ↦ (omega (arith, lesser-above n l)) ]
-
-pub lesser-within : (n : ℕ) → lesser n ≤ n
-lesser-within n = elim (order n 64) [ inl l ↦ (omega (arith, lesser-below n l)) | inr l ↦ (omega (arith, lesser-above n l)) ]
-
 -- the heads that a call may have changed
-pub changed-small : (number n : ℕ) → changed number n ≤ 64
+pub changed-small : (number : ℕ) → changed number ≤ 64
 unfolding changed
-changed-small number n = by-test (λ (k : ℕ). k ≤ 64) _ _ _ (λ _. lesser-small n) (λ _. omega arith)
-
-pub changed-within : (number n : ℕ) → changed number n ≤ n
-unfolding changed
-changed-within number n = by-test (λ (k : ℕ). k ≤ n) _ _ _ (λ _. lesser-within n) (λ _. omega arith)
+changed-small number = by-test (λ (k : ℕ). k ≤ 64) _ _ _ (λ _. omega arith) (λ _. omega arith)
 
 -- ---- the local numbers
 unfoldable pub zeros : List ℕ
@@ -170,12 +151,12 @@ length-zeros = length-replicate {A = ℕ} 256 0
 
 -- the numbers once the heads are loaded
 abbrev pub flatOf : List Head → List ℕ
-flatOf hs = loaded (lesser (length hs)) hs zeros
+flatOf hs = loaded 64 hs zeros
 
 pub length-flat : (hs : List Head) → length (flatOf hs) ≡ 256
-length-flat hs = length-loaded (lesser (length hs)) hs zeros ∙ length-zeros
+length-flat hs = length-loaded 64 hs zeros ∙ length-zeros
 
--- ---- the numbers in use are the heads'
+-- ---- the numbers are the heads'
 
 -- what holds of all four numbers of each head holds of each number
 each-number : (P : ℕ → Type 0) (k : ℕ) → ((i : ℕ) → i < k → P (i * 4) × P (i * 4 + 1) × P (i * 4 + 2) × P (i * 4 + 3)) → (j : ℕ) → j < k * 4 → P j
@@ -215,43 +196,34 @@ numbers-at (h ∷ hs) (suc i) = next ∙ numbers-at hs i
     next : headAt (h .«name_length» ∷ h .«value_length» ∷ h .«type_code» ∷ h .number ∷ numbers hs) (suc i) ≡ headAt (numbers hs) i
     next = λ t. record { «name_length» = past (suc i * 4) (i * 4) (omega arith) t; «value_length» = past (suc i * 4 + 1) (i * 4 + 1) (omega arith) t; «type_code» = past (suc i * 4 + 2) (i * 4 + 2) (omega arith) t; number = past (suc i * 4 + 3) (i * 4 + 3) (omega arith) t }
 
-taken-at : (n : ℕ) (f : List ℕ) (i : ℕ) → i < n → headAt (take (n * 4) f) i ≡ headAt f i
-taken-at n f i l = λ t. record { «name_length» = getD-take (n * 4) f (i * 4) 0 (omega arith) t; «value_length» = getD-take (n * 4) f (i * 4 + 1) 0 (omega arith) t; «type_code» = getD-take (n * 4) f (i * 4 + 2) 0 (omega arith) t; number = getD-take (n * 4) f (i * 4 + 3) 0 (omega arith) t }
+flatHeads-at : (hs : List Head) (i : ℕ) → i < 64 → headAt (flatHeads hs) i ≡ getD hs i noHead
+unfolding flatHeads
+flatHeads-at hs i l = numbers-at (take 64 hs) i ∙ getD-take 64 hs i noHead l
 
-module _ (hs : List Head) where
-  abbrev held : ℕ
-  held = lesser (length hs)
+-- too few heads, too few numbers
+pub length-few : (hs : List Head) → length hs < 64 → length (flatHeads hs) < 256
+unfolding flatHeads
+length-few hs few = simp (length-numbers, length-take) (omega arith)
 
-  length-held : (xs : List Head) → length xs ≡ length hs → length (take 64 xs) ≡ held
-  length-held xs e = elim (order (length hs) 64) [ inl l ↦ (simp length-take (omega (arith, lesser-below (length hs) l))) | inr l ↦ (simp length-take (omega (arith, lesser-above (length hs) l))) ]
-
-  length-flatHeads : (xs : List Head) → length xs ≡ length hs → length (flatHeads xs) ≡ held * 4
+module _ (hs : List Head) (enough : 64 ≤ length hs) where
+  length-enough : (xs : List Head) → length xs ≡ length hs → length (flatHeads xs) ≡ 256
   unfolding flatHeads
-  length-flatHeads xs e = length-numbers (take 64 xs) ∙ ap (λ (k : ℕ). k * 4) (length-held xs e)
-
-  flatHeads-at : (xs : List Head) (i : ℕ) → i < held → headAt (flatHeads xs) i ≡ getD xs i noHead
-  unfolding flatHeads
-  flatHeads-at xs i l = numbers-at (take 64 xs) i ∙ getD-take 64 xs i noHead (omega (arith, lesser-small (length hs)))
-
-  length-in-use : (f : List ℕ) → length f ≡ 256 → length (take (held * 4) f) ≡ held * 4
-  length-in-use f e = simp length-take (omega (arith, lesser-small (length hs)))
+  length-enough xs e = simp (length-numbers, length-take) (omega arith)
 
   -- loading
-  pub load-flat : take (held * 4) (flatOf hs) ≡ flatHeads hs
-  load-flat = same-heads held (take (held * 4) (flatOf hs)) (flatHeads hs) (length-in-use (flatOf hs) (length-flat hs)) (length-flatHeads hs refl)
-      (λ i l. taken-at held (flatOf hs) i l ∙ loaded-at held hs zeros (omega (arith, length-zeros, lesser-small (length hs))) i l ∙ sym (flatHeads-at hs i l))
+  pub load-flat : flatOf hs ≡ flatHeads hs
+  load-flat = same-heads 64 (flatOf hs) (flatHeads hs) (length-flat hs) (length-enough hs refl) (λ i l. loaded-at 64 hs zeros (omega (arith, length-zeros)) i l ∙ sym (flatHeads-at hs i l))
 
   module _ (f : List ℕ) (len : length f ≡ 256) where
-    store-all : flatHeads (stored held f hs) ≡ take (held * 4) f
-    store-all = same-heads held (flatHeads (stored held f hs)) (take (held * 4) f) (length-flatHeads (stored held f hs) (length-stored held f hs)) (length-in-use f len)
-        (λ i l. flatHeads-at (stored held f hs) i l ∙ stored-at held f hs (lesser-within (length hs)) i l ∙ sym (taken-at held f i l))
+    store-all : flatHeads (stored 64 f hs) ≡ f
+    store-all = same-heads 64 (flatHeads (stored 64 f hs)) f (length-enough (stored 64 f hs) (length-stored 64 f hs)) len (λ i l. flatHeads-at (stored 64 f hs) i l ∙ stored-at 64 f hs enough i l)
 
     -- storing what a call left, where it left the numbers as they were unless it is done
-    pub store-flat : (number : ℕ) → (number ≢ 0 → take (held * 4) f ≡ take (held * 4) (flatOf hs)) → flatHeads (stored (changed number (length hs)) f hs) ≡ take (held * 4) f
+    pub store-flat : (number : ℕ) → (number ≢ 0 → f ≡ flatOf hs) → flatHeads (stored (changed number) f hs) ≡ f
     unfolding changed
-    store-flat number kept = by-test (λ (k : ℕ). flatHeads (stored k f hs) ≡ take (held * 4) f) _ _ _ (λ _. store-all) (λ ne. rw (← (stored-none f hs)) (sym (kept (eqb-false number 0 ne) ∙ load-flat)))
+    store-flat number kept = by-test (λ (k : ℕ). flatHeads (stored k f hs) ≡ f) _ _ _ (λ _. store-all) (λ ne. rw (← (stored-none f hs)) (sym (kept (eqb-false number 0 ne) ∙ load-flat)))
 
   -- a head past the first 64 is as it was
-  pub store-rest : (f : List ℕ) (k : ℕ) → k ≤ 64 → drop 64 (stored k f hs) ≡ drop 64 hs
-  store-rest f k small = ext-getD noHead (drop 64 (stored k f hs)) (drop 64 hs) (simp (length-drop, length-stored))
-      (λ i l. getD-drop 64 (stored k f hs) i noHead ∙ stored-past k f hs (64 + i) (omega arith) ∙ sym (getD-drop 64 hs i noHead))
+  pub store-rest : (f : List ℕ) (number : ℕ) → drop 64 (stored (changed number) f hs) ≡ drop 64 hs
+  store-rest f number = ext-getD noHead (drop 64 (stored (changed number) f hs)) (drop 64 hs) (simp (length-drop, length-stored))
+      (λ i l. getD-drop 64 (stored (changed number) f hs) i noHead ∙ stored-past (changed number) f hs (64 + i) (omega (arith, changed-small number)) ∙ sym (getD-drop 64 hs i noHead))

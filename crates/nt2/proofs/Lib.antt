@@ -1,10 +1,12 @@
 pub mod TakenLaws
-pub mod PartLaws
 pub mod NumberLaws
 pub mod UnchangedLaws
+pub mod FewLaws
 pub mod HeadLaws
 pub mod Walk
+pub mod Leave
 pub mod Again
 pub mod Lend
 pub mod Boundary
 pub mod Calls
+pub mod Refuse

@@ -1,7 +1,7 @@
 -- Heads as flat numbers, four each: "A head has the lengths, type and number".
 use Prim.Native.Nat.{ℕ, zero, suc, _+_, _*_}
 use mathlib.Core.List.{List, [], _∷_}
-use lib.Dec.{ltb, eqb}
+use lib.Dec.{eqb}
 use lib.ListN.{getD, set, take}
 use Rattle.field.specs.Answer.{done}
 use Rattle.field.specs.Choice.{pick}
@@ -17,13 +17,9 @@ numbers (h ∷ hs) = h .«name_length» ∷ h .«value_length» ∷ h .«type_co
 unfoldable pub flatHeads : List Head → List ℕ
 flatHeads hs = numbers (take maxEntries hs)
 
--- how many of n heads a table has
-unfoldable pub lesser : ℕ → ℕ
-lesser n = pick (ltb n maxEntries) n maxEntries
-
--- how many of n heads a call may have changed: none unless it is done
-unfoldable pub changed : (number n : ℕ) → ℕ
-changed number n = pick (eqb number done) (lesser n) 0
+-- how many heads a call may have changed: none unless it is done
+unfoldable pub changed : ℕ → ℕ
+changed number = pick (eqb number done) maxEntries 0
 
 -- what is read where there is no head
 abbrev pub noHead : Head

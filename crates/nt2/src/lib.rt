@@ -1,6 +1,7 @@
 // The calls that are exported to C: each on a table lent as heads beside their bytes.
 use client::Copied;
 use field::DONE;
+use field::UNSOUND;
 use message::Decoded;
 use scalar::Scalar;
 use server::Answer;
@@ -8,7 +9,7 @@ use writer::Encoded;
 ghost use mathlib.Core.Path.{_≡_};
 ghost use Prim.Native.Nat.{_+_, _*_, _<_, _≤_};
 ghost use mathlib.Core.List.{[]};
-ghost use lib.ListN.{length, take, drop};
+ghost use lib.ListN.{length, drop};
 ghost use Rattle.message.specs.Reader.{parseMessage, takenOf};
 ghost use Rattle.writer.specs.Writer.{check, answerOf, outputOf};
 ghost use Rattle.table.specs.Table.{tableMemory, maxEntries, headSize};
@@ -17,7 +18,7 @@ ghost use Rattle.server.specs.Step.{callStep, freshStart, readScalar};
 ghost use Rattle.server.specs.Answers.{serverMemory, resultOf, startOf};
 ghost use Rattle.client.specs.Copy.{copyMessage, copyFreshStart};
 ghost use Rattle.client.specs.Answers.{resultOf as copyResultOf};
-ghost use Rattle.nt2.specs.Heads.{lesser, changed, withHead, headAt, loaded, stored, flatHeads};
+ghost use Rattle.nt2.specs.Heads.{changed, withHead, headAt, loaded, stored, flatHeads};
 ghost use Rattle.nt2.specs.Answers.{sentAnswer, scalarAnswer, fieldsOf, encodedAnswer, copyStartOf};
 
 // One entry head.
@@ -51,6 +52,27 @@ pub struct Fields {
     pub name_length: usize,
     pub value_length: usize,
 }
+
+// What the calls answer on fewer heads than a table has.
+const TOO_FEW: Answer = Answer {
+    number: UNSOUND,
+    recipients: 0,
+    taken: 0,
+    sent: 0,
+};
+
+const NOTHING_READ: ScalarAnswer = ScalarAnswer {
+    number: UNSOUND,
+    found: 0,
+    flag: false,
+    value: 0.0,
+};
+
+const NOTHING_COPIED: Copied = Copied {
+    number: UNSOUND,
+    revision: 0,
+    taken: 0,
+};
 
 // ---- messages, with no table
 
@@ -212,25 +234,14 @@ pub extern "C" fn nt2_decode(bytes: &[u8], update_type: u8) -> Fields
 
 // ---- heads as flat numbers, four each
 
-// How many of n heads a table has: at most its entries.
-fn used(n: usize) -> usize
-    ensures { λ r. ⌜ r ≡ lesser n ⌝ }
-{
-    if n < table::MAX_ENTRIES {
-        n
-    } else {
-        table::MAX_ENTRIES
-    }
-}
-
-// How many of n heads a call may have changed: none unless it is done.
-fn changed(number: u8, n: usize) -> usize
-    ensures { λ r. ⌜ r ≡ changed number n ⌝ }
+// How many heads a call may have changed: none unless it is done.
+fn changed(number: u8) -> usize
+    ensures { λ r. ⌜ r ≡ changed number ⌝ }
 {
     if number != DONE {
         return 0;
     }
-    used(n)
+    table::MAX_ENTRIES
 }
 
 // One head becomes four numbers.
@@ -259,27 +270,25 @@ fn head_at(flat: &[u16], i: usize) -> Head
     }
 }
 
-// The heads of a table, or all where there are fewer, become numbers; says how many heads.
-fn load(heads: &[Head], flat: &mut [u16]) -> usize
-    requires { ⌜ headSize * maxEntries ≤ length (now flat) ⌝ }
-    ensures { λ r. ⌜ (r ≡ lesser (length (now (heads .entry)))) × (now (flat .exit) ≡ loaded (lesser (length (now (heads .entry)))) (now (heads .entry)) (now (flat .entry))) ⌝ }
+// The heads of a table become numbers.
+fn load(heads: &[Head], flat: &mut [u16])
+    requires { ⌜ (maxEntries ≤ length (now heads)) × (headSize * maxEntries ≤ length (now flat)) ⌝ }
+    ensures { λ _. ⌜ now (flat .exit) ≡ loaded maxEntries (now (heads .entry)) (now (flat .entry)) ⌝ }
 {
-    let n = used(heads.len());
     let mut i: usize = 0;
-    while i < n {
+    while i < table::MAX_ENTRIES {
         let h = heads[i];
         put_head(flat, i, h);
         i += 1;
     }
-    n
 }
 
-// The numbers become the heads of a table again, or all where there are fewer, once a call is done.
+// The numbers become the heads of a table again, once a call is done.
 fn store(number: u8, flat: &[u16], heads: &mut [Head])
-    requires { ⌜ headSize * maxEntries ≤ length (now flat) ⌝ }
-    ensures { λ _. ⌜ now (heads .exit) ≡ stored (changed number (length (now (heads .entry)))) (now (flat .entry)) (now (heads .entry)) ⌝ }
+    requires { ⌜ (maxEntries ≤ length (now heads)) × (headSize * maxEntries ≤ length (now flat)) ⌝ }
+    ensures { λ _. ⌜ now (heads .exit) ≡ stored (changed number) (now (flat .entry)) (now (heads .entry)) ⌝ }
 {
-    let n = changed(number, heads.len());
+    let n = changed(number);
     let mut i: usize = 0;
     while i < n {
         heads[i] = head_at(flat, i);
@@ -287,104 +296,37 @@ fn store(number: u8, flat: &[u16], heads: &mut [Head])
     }
 }
 
-// ---- each call on the numbers of n heads
+// ---- calls on the numbers, for exported calls that want only an answer's number or are lent the count
 
-fn fresh_flat(flat: &[u16], n: usize, bytes: &[u8], count: &mut u16, marks: &mut [u8]) -> u8
-    requires { ⌜ n * 4 ≤ length (now flat) ⌝ }
-    ensures { λ r. ⌜ (sentAnswer r 0 ≡ startOf (freshStart maxEntries (serverMemory (take (n * 4) (now (flat .entry))) (now (bytes .entry)) (now (count .entry)) (now (marks .entry))))) × (serverMemory (take (n * 4) (now (flat .entry))) (now (bytes .entry)) (now (count .exit)) (now (marks .exit)) ≡ freshStart maxEntries (serverMemory (take (n * 4) (now (flat .entry))) (now (bytes .entry)) (now (count .entry)) (now (marks .entry))) .memory) ⌝ }
+fn fresh_flat(flat: &[u16], bytes: &[u8], count: &mut u16, marks: &mut [u8]) -> u8
+    ensures { λ r. ⌜ (sentAnswer r 0 ≡ startOf (freshStart maxEntries (serverMemory (now (flat .entry)) (now (bytes .entry)) (now (count .entry)) (now (marks .entry))))) × (serverMemory (now (flat .entry)) (now (bytes .entry)) (now (count .exit)) (now (marks .exit)) ≡ freshStart maxEntries (serverMemory (now (flat .entry)) (now (bytes .entry)) (now (count .entry)) (now (marks .entry))) .memory) ⌝ }
 {
-    let end = n * 4;
-    let answer = server::fresh(&flat[0..end], bytes, count, marks);
+    let answer = server::fresh(flat, bytes, count, marks);
     answer.number
 }
 
-fn open_flat(
-    flat: &[u16],
-    n: usize,
-    bytes: &[u8],
-    count: &mut u16,
-    marks: &mut [u8],
-    connection: usize,
-) -> u8
-    requires { ⌜ n * 4 ≤ length (now flat) ⌝ }
-    ensures { λ r. ⌜ resultOf (sentAnswer r 0) (take (n * 4) (now (flat .entry))) (now (bytes .entry)) (now (count .exit)) (now (marks .exit)) [] ≡ callStep maxEntries (serverMemory (take (n * 4) (now (flat .entry))) (now (bytes .entry)) (now (count .entry)) (now (marks .entry))) (record { call = openConnection connection; output = [] }) ⌝ }
+fn open_flat(flat: &[u16], bytes: &[u8], count: &mut u16, marks: &mut [u8], connection: usize) -> u8
+    ensures { λ r. ⌜ resultOf (sentAnswer r 0) (now (flat .entry)) (now (bytes .entry)) (now (count .exit)) (now (marks .exit)) [] ≡ callStep maxEntries (serverMemory (now (flat .entry)) (now (bytes .entry)) (now (count .entry)) (now (marks .entry))) (record { call = openConnection connection; output = [] }) ⌝ }
 {
-    let end = n * 4;
-    let answer = server::open(&flat[0..end], bytes, *count, marks, connection);
+    let answer = server::open(flat, bytes, *count, marks, connection);
     answer.number
 }
 
 fn leave_flat(
     flat: &[u16],
-    n: usize,
     bytes: &[u8],
     count: &mut u16,
     marks: &mut [u8],
     connection: usize,
 ) -> u8
-    requires { ⌜ n * 4 ≤ length (now flat) ⌝ }
-    ensures { λ r. ⌜ resultOf (sentAnswer r 0) (take (n * 4) (now (flat .entry))) (now (bytes .entry)) (now (count .exit)) (now (marks .exit)) [] ≡ callStep maxEntries (serverMemory (take (n * 4) (now (flat .entry))) (now (bytes .entry)) (now (count .entry)) (now (marks .entry))) (record { call = leave connection; output = [] }) ⌝ }
+    ensures { λ r. ⌜ resultOf (sentAnswer r 0) (now (flat .entry)) (now (bytes .entry)) (now (count .exit)) (now (marks .exit)) [] ≡ callStep maxEntries (serverMemory (now (flat .entry)) (now (bytes .entry)) (now (count .entry)) (now (marks .entry))) (record { call = leave connection; output = [] }) ⌝ }
 {
-    let end = n * 4;
-    let answer = server::leave_connection(&flat[0..end], bytes, *count, marks, connection);
+    let answer = server::leave_connection(flat, bytes, *count, marks, connection);
     answer.number
-}
-
-fn receive_flat(
-    flat: &mut [u16],
-    n: usize,
-    bytes: &mut [u8],
-    count: &mut u16,
-    marks: &mut [u8],
-    connection: usize,
-    message: &[u8],
-    out: &mut [u8],
-) -> Answer
-    requires { ⌜ n * 4 ≤ length (now flat) ⌝ }
-    ensures { λ r. ⌜ resultOf r (take (n * 4) (now (flat .exit))) (now (bytes .exit)) (now (count .exit)) (now (marks .exit)) (now (out .exit)) ≡ callStep maxEntries (serverMemory (take (n * 4) (now (flat .entry))) (now (bytes .entry)) (now (count .entry)) (now (marks .entry))) (record { call = clientMessage connection (now (message .entry)); output = now (out .entry) }) ⌝ }
-{
-    let end = n * 4;
-    server::receive(
-        &mut flat[0..end],
-        bytes,
-        count,
-        marks,
-        connection,
-        message,
-        out,
-    )
-}
-
-fn create_flat(
-    flat: &mut [u16],
-    n: usize,
-    bytes: &mut [u8],
-    count: &mut u16,
-    marks: &[u8],
-    name: &[u8],
-    type_code: u8,
-    value: &[u8],
-    out: &mut [u8],
-) -> Answer
-    requires { ⌜ n * 4 ≤ length (now flat) ⌝ }
-    ensures { λ r. ⌜ resultOf r (take (n * 4) (now (flat .exit))) (now (bytes .exit)) (now (count .exit)) (now (marks .entry)) (now (out .exit)) ≡ callStep maxEntries (serverMemory (take (n * 4) (now (flat .entry))) (now (bytes .entry)) (now (count .entry)) (now (marks .entry))) (record { call = localCreate (now (name .entry)) «type_code» (now (value .entry)); output = now (out .entry) }) ⌝ }
-{
-    let end = n * 4;
-    server::create(
-        &mut flat[0..end],
-        bytes,
-        count,
-        marks,
-        name,
-        type_code,
-        value,
-        out,
-    )
 }
 
 fn write_flat(
     flat: &mut [u16],
-    n: usize,
     bytes: &mut [u8],
     count: &mut u16,
     marks: &[u8],
@@ -392,11 +334,9 @@ fn write_flat(
     value: &[u8],
     out: &mut [u8],
 ) -> Answer
-    requires { ⌜ n * 4 ≤ length (now flat) ⌝ }
-    ensures { λ r. ⌜ resultOf r (take (n * 4) (now (flat .exit))) (now (bytes .exit)) (now (count .exit)) (now (marks .entry)) (now (out .exit)) ≡ callStep maxEntries (serverMemory (take (n * 4) (now (flat .entry))) (now (bytes .entry)) (now (count .entry)) (now (marks .entry))) (record { call = localWrite id (now (value .entry)); output = now (out .entry) }) ⌝ }
+    ensures { λ r. ⌜ resultOf r (now (flat .exit)) (now (bytes .exit)) (now (count .exit)) (now (marks .entry)) (now (out .exit)) ≡ callStep maxEntries (serverMemory (now (flat .entry)) (now (bytes .entry)) (now (count .entry)) (now (marks .entry))) (record { call = localWrite id (now (value .entry)); output = now (out .entry) }) ⌝ }
 {
-    let end = n * 4;
-    server::write(&mut flat[0..end], bytes, *count, marks, id, value, out)
+    server::write(flat, bytes, *count, marks, id, value, out)
 }
 
 fn answer_scalar(s: Scalar) -> ScalarAnswer
@@ -430,35 +370,18 @@ fn answer_scalar(s: Scalar) -> ScalarAnswer
     }
 }
 
-fn read_flat(flat: &[u16], n: usize, bytes: &[u8], count: &mut u16, id: u16) -> ScalarAnswer
-    requires { ⌜ n * 4 ≤ length (now flat) ⌝ }
-    ensures { λ r. ⌜ (r ≡ scalarAnswer (readScalar maxEntries (tableMemory (take (n * 4) (now (flat .entry))) (now (bytes .entry)) (now (count .entry))) id)) × (now (count .exit) ≡ now (count .entry)) ⌝ }
+fn read_flat(flat: &[u16], bytes: &[u8], count: &mut u16, id: u16) -> ScalarAnswer
+    ensures { λ r. ⌜ (r ≡ scalarAnswer (readScalar maxEntries (tableMemory (now (flat .entry)) (now (bytes .entry)) (now (count .entry))) id)) × (now (count .exit) ≡ now (count .entry)) ⌝ }
 {
-    let end = n * 4;
-    let scalar = server::read(&flat[0..end], bytes, *count, id);
+    let scalar = server::read(flat, bytes, *count, id);
     answer_scalar(scalar)
 }
 
-fn copy_fresh_flat(flat: &[u16], n: usize, bytes: &[u8], count: &mut u16) -> u8
-    requires { ⌜ n * 4 ≤ length (now flat) ⌝ }
-    ensures { λ r. ⌜ (sentAnswer r 0 ≡ copyStartOf (copyFreshStart maxEntries (tableMemory (take (n * 4) (now (flat .entry))) (now (bytes .entry)) (now (count .entry))))) × (tableMemory (take (n * 4) (now (flat .entry))) (now (bytes .entry)) (now (count .exit)) ≡ copyFreshStart maxEntries (tableMemory (take (n * 4) (now (flat .entry))) (now (bytes .entry)) (now (count .entry))) .memory) ⌝ }
+// A fresh start of a copy, with its two promises as one.
+fn copy_fresh_flat(flat: &[u16], bytes: &[u8], count: &mut u16) -> u8
+    ensures { λ r. ⌜ (sentAnswer r 0 ≡ copyStartOf (copyFreshStart maxEntries (tableMemory (now (flat .entry)) (now (bytes .entry)) (now (count .entry))))) × (tableMemory (now (flat .entry)) (now (bytes .entry)) (now (count .exit)) ≡ copyFreshStart maxEntries (tableMemory (now (flat .entry)) (now (bytes .entry)) (now (count .entry))) .memory) ⌝ }
 {
-    let end = n * 4;
-    client::copy_fresh(&flat[0..end], bytes, count)
-}
-
-fn copy_receive_flat(
-    flat: &mut [u16],
-    n: usize,
-    bytes: &mut [u8],
-    count: &mut u16,
-    message: &[u8],
-) -> Copied
-    requires { ⌜ n * 4 ≤ length (now flat) ⌝ }
-    ensures { λ r. ⌜ copyResultOf r (take (n * 4) (now (flat .exit))) (now (bytes .exit)) (now (count .exit)) ≡ copyMessage maxEntries (tableMemory (take (n * 4) (now (flat .entry))) (now (bytes .entry)) (now (count .entry))) (now (message .entry)) ⌝ }
-{
-    let end = n * 4;
-    client::copy_receive(&mut flat[0..end], bytes, count, message)
+    client::copy_fresh(flat, bytes, count)
 }
 
 // ---- the exported calls: heads become numbers, the call is made on them, and they become heads again
@@ -472,9 +395,12 @@ pub extern "C" fn nt2_fresh(
 ) -> Answer
     ensures { λ r. ⌜ (r ≡ startOf (freshStart maxEntries (serverMemory (flatHeads (now (heads .entry))) (now (bytes .entry)) (now (count .entry)) (now (marks .entry))))) × (serverMemory (flatHeads (now (heads .entry))) (now (bytes .entry)) (now (count .exit)) (now (marks .exit)) ≡ freshStart maxEntries (serverMemory (flatHeads (now (heads .entry))) (now (bytes .entry)) (now (count .entry)) (now (marks .entry))) .memory) ⌝ }
 {
+    if heads.len() < table::MAX_ENTRIES {
+        return TOO_FEW;
+    }
     let mut flat = [0u16; table::HEADS_SIZE];
-    let n = load(heads, &mut flat);
-    let number = fresh_flat(&flat, n, bytes, count, marks);
+    load(heads, &mut flat);
+    let number = fresh_flat(&flat, bytes, count, marks);
     Answer {
         number: number,
         recipients: 0,
@@ -493,9 +419,12 @@ pub extern "C" fn nt2_open(
 ) -> Answer
     ensures { λ r. ⌜ resultOf r (flatHeads (now (heads .entry))) (now (bytes .entry)) (now (count .exit)) (now (marks .exit)) [] ≡ callStep maxEntries (serverMemory (flatHeads (now (heads .entry))) (now (bytes .entry)) (now (count .entry)) (now (marks .entry))) (record { call = openConnection connection; output = [] }) ⌝ }
 {
+    if heads.len() < table::MAX_ENTRIES {
+        return TOO_FEW;
+    }
     let mut flat = [0u16; table::HEADS_SIZE];
-    let n = load(heads, &mut flat);
-    let number = open_flat(&flat, n, bytes, count, marks, connection);
+    load(heads, &mut flat);
+    let number = open_flat(&flat, bytes, count, marks, connection);
     Answer {
         number: number,
         recipients: 0,
@@ -514,9 +443,12 @@ pub extern "C" fn nt2_leave(
 ) -> Answer
     ensures { λ r. ⌜ resultOf r (flatHeads (now (heads .entry))) (now (bytes .entry)) (now (count .exit)) (now (marks .exit)) [] ≡ callStep maxEntries (serverMemory (flatHeads (now (heads .entry))) (now (bytes .entry)) (now (count .entry)) (now (marks .entry))) (record { call = leave connection; output = [] }) ⌝ }
 {
+    if heads.len() < table::MAX_ENTRIES {
+        return TOO_FEW;
+    }
     let mut flat = [0u16; table::HEADS_SIZE];
-    let n = load(heads, &mut flat);
-    let number = leave_flat(&flat, n, bytes, count, marks, connection);
+    load(heads, &mut flat);
+    let number = leave_flat(&flat, bytes, count, marks, connection);
     Answer {
         number: number,
         recipients: 0,
@@ -537,9 +469,12 @@ pub extern "C" fn nt2_receive(
 ) -> Answer
     ensures { λ r. ⌜ (resultOf r (flatHeads (now (heads .exit))) (now (bytes .exit)) (now (count .exit)) (now (marks .exit)) (now (out .exit)) ≡ callStep maxEntries (serverMemory (flatHeads (now (heads .entry))) (now (bytes .entry)) (now (count .entry)) (now (marks .entry))) (record { call = clientMessage connection (now (message .entry)); output = now (out .entry) })) × (drop maxEntries (now (heads .exit)) ≡ drop maxEntries (now (heads .entry))) ⌝ }
 {
+    if heads.len() < table::MAX_ENTRIES {
+        return TOO_FEW;
+    }
     let mut flat = [0u16; table::HEADS_SIZE];
-    let n = load(heads, &mut flat);
-    let r = receive_flat(&mut flat, n, bytes, count, marks, connection, message, out);
+    load(heads, &mut flat);
+    let r = server::receive(&mut flat, bytes, count, marks, connection, message, out);
     store(r.number, &flat, heads);
     r
 }
@@ -557,19 +492,12 @@ pub extern "C" fn nt2_create(
 ) -> Answer
     ensures { λ r. ⌜ (resultOf r (flatHeads (now (heads .exit))) (now (bytes .exit)) (now (count .exit)) (now (marks .entry)) (now (out .exit)) ≡ callStep maxEntries (serverMemory (flatHeads (now (heads .entry))) (now (bytes .entry)) (now (count .entry)) (now (marks .entry))) (record { call = localCreate (now (name .entry)) «type_code» (now (value .entry)); output = now (out .entry) })) × (drop maxEntries (now (heads .exit)) ≡ drop maxEntries (now (heads .entry))) ⌝ }
 {
+    if heads.len() < table::MAX_ENTRIES {
+        return TOO_FEW;
+    }
     let mut flat = [0u16; table::HEADS_SIZE];
-    let n = load(heads, &mut flat);
-    let r = create_flat(
-        &mut flat,
-        n,
-        bytes,
-        count,
-        marks,
-        name,
-        type_code,
-        value,
-        out,
-    );
+    load(heads, &mut flat);
+    let r = server::create(&mut flat, bytes, count, marks, name, type_code, value, out);
     store(r.number, &flat, heads);
     r
 }
@@ -586,9 +514,12 @@ pub extern "C" fn nt2_write(
 ) -> Answer
     ensures { λ r. ⌜ (resultOf r (flatHeads (now (heads .exit))) (now (bytes .exit)) (now (count .exit)) (now (marks .entry)) (now (out .exit)) ≡ callStep maxEntries (serverMemory (flatHeads (now (heads .entry))) (now (bytes .entry)) (now (count .entry)) (now (marks .entry))) (record { call = localWrite id (now (value .entry)); output = now (out .entry) })) × (drop maxEntries (now (heads .exit)) ≡ drop maxEntries (now (heads .entry))) ⌝ }
 {
+    if heads.len() < table::MAX_ENTRIES {
+        return TOO_FEW;
+    }
     let mut flat = [0u16; table::HEADS_SIZE];
-    let n = load(heads, &mut flat);
-    let r = write_flat(&mut flat, n, bytes, count, marks, id, value, out);
+    load(heads, &mut flat);
+    let r = write_flat(&mut flat, bytes, count, marks, id, value, out);
     store(r.number, &flat, heads);
     r
 }
@@ -597,18 +528,24 @@ pub extern "C" fn nt2_write(
 pub extern "C" fn nt2_read(heads: &[Head], bytes: &[u8], count: &mut u16, id: u16) -> ScalarAnswer
     ensures { λ r. ⌜ (r ≡ scalarAnswer (readScalar maxEntries (tableMemory (flatHeads (now (heads .entry))) (now (bytes .entry)) (now (count .entry))) id)) × (now (count .exit) ≡ now (count .entry)) ⌝ }
 {
+    if heads.len() < table::MAX_ENTRIES {
+        return NOTHING_READ;
+    }
     let mut flat = [0u16; table::HEADS_SIZE];
-    let n = load(heads, &mut flat);
-    read_flat(&flat, n, bytes, count, id)
+    load(heads, &mut flat);
+    read_flat(&flat, bytes, count, id)
 }
 
 #[no_mangle]
 pub extern "C" fn nt2_copy_fresh(heads: &[Head], bytes: &[u8], count: &mut u16) -> Answer
     ensures { λ r. ⌜ (r ≡ copyStartOf (copyFreshStart maxEntries (tableMemory (flatHeads (now (heads .entry))) (now (bytes .entry)) (now (count .entry))))) × (tableMemory (flatHeads (now (heads .entry))) (now (bytes .entry)) (now (count .exit)) ≡ copyFreshStart maxEntries (tableMemory (flatHeads (now (heads .entry))) (now (bytes .entry)) (now (count .entry))) .memory) ⌝ }
 {
+    if heads.len() < table::MAX_ENTRIES {
+        return TOO_FEW;
+    }
     let mut flat = [0u16; table::HEADS_SIZE];
-    let n = load(heads, &mut flat);
-    let number = copy_fresh_flat(&flat, n, bytes, count);
+    load(heads, &mut flat);
+    let number = copy_fresh_flat(&flat, bytes, count);
     Answer {
         number: number,
         recipients: 0,
@@ -626,9 +563,12 @@ pub extern "C" fn nt2_copy_receive(
 ) -> Copied
     ensures { λ r. ⌜ (copyResultOf r (flatHeads (now (heads .exit))) (now (bytes .exit)) (now (count .exit)) ≡ copyMessage maxEntries (tableMemory (flatHeads (now (heads .entry))) (now (bytes .entry)) (now (count .entry))) (now (message .entry))) × (drop maxEntries (now (heads .exit)) ≡ drop maxEntries (now (heads .entry))) ⌝ }
 {
+    if heads.len() < table::MAX_ENTRIES {
+        return NOTHING_COPIED;
+    }
     let mut flat = [0u16; table::HEADS_SIZE];
-    let n = load(heads, &mut flat);
-    let r = copy_receive_flat(&mut flat, n, bytes, count, message);
+    load(heads, &mut flat);
+    let r = client::copy_receive(&mut flat, bytes, count, message);
     store(r.number, &flat, heads);
     r
 }

@@ -1,5 +1,4 @@
 use borrow.Author.Tests.{eq-eqb, ne-eqb}
-use borrow.Author.Needs.{needs}
 use Rattle.field.specs.Choice.{pick}
 use Rattle.nt2.specs.Heads.{changed}
 use Rattle.nt2.proofs.changed.Statement.{statement}
@@ -9,12 +8,9 @@ returns : tie.Need-returns
 unfolding changed pick
 returns c = rw (ne-eqb _ _ (c .if1 .taken))
 
-used-requires : tie.Need-used-requires
-used-requires c κs = search needs
-
 returns-2 : tie.Need-returns-2
 unfolding changed pick
-returns-2 c = rw (eq-eqb _ _ (c .before .if1 .left)) (c .used .ensures)
+returns-2 c = rw (eq-eqb _ _ (c .if1 .left))
 
 pub changed-spec : {M : Type 1} → statement M
-changed-spec = tie.close (tie.spec returns used-requires returns-2)
+changed-spec = tie.close (tie.spec returns returns-2)

@@ -1,14 +1,18 @@
 -- `nt2::nt2_copy_fresh` meets its contract: a walk of its MIR, by hand, with the steps of `Calls.antt`.
-use Rattle.nt2.proofs.Calls.{_≡_, refl, ap, ℕ, _*_, [], _∷_, lit<, length, take, URA, fullShare, named, w8, w16, w64, tyInt, tyArray, Val, vint, SProp, id⊢, via, Fml, fsep, fat, froom, flft, Memory, Routine, Heap, WpFn, Tables, Atoms, Fun, givenOf, tables, tablesOf, Lfts, toks, Given, ‵, raw, _⊛_, _$_, _∵_, !, qed, by, move, use1, rewrite, agg, rep, look, init, forget, stop, hop, from, lit, addr, and-then, no-more, land, returns, enter, alloc1, alloc0, params1, pass1, pass0, free1, free0, fmOf, WpFn-mono, Spells, valss, uint-lawful, u8, u16, ptr-vals, mut-tells, sliceVal, ShrSlice, slice-vals, shr-slice-tells, typesAt, only, Meets, tripleOf, Contract, Triple, entered, cited, ends-at, #nt2·load, load-known, held, sets, stays, through, othersOwn, OthersLast, othersLast, opened, calls-core-shr, number-typed, exits-number}
+use Rattle.nt2.proofs.Calls.{_≡_, refl, ap, ℕ, [], _∷_, lit<, ltb→lt, nltb→le, length, URA, fullShare, named, w8, w16, tyInt, tyArray, Val, SProp, id⊢, via, Fml, fsep, fat, froom, flft, Heap, WpFn, Tables, Atoms, Fun, Lfts, toks, Given, ‵, raw, _⊛_, _$_, _∵_, !, qed, by, move, use1, rewrite, look, init, stop, hop, fld, from, load, lit, addr, of-opd, bin, and-then, no-more, land, returns, enter, alloc1, alloc0, params1, pass1, pass0, fmOf, WpFn-mono, Spells, valss, uint-lawful, nothing-lawful, u8, u16, ptr-vals, mut-tells, sliceVal, ShrSlice, slice-vals, shr-slice-tells, typesAt, only, Meets, tripleOf, Contract, Triple, ends-at, Memory, Routine, givenOf, tables, tablesOf, agg, rep, whole, sub, look-in, entered, cited, #nt2·load, stays, through, held, sets, opened, calls-core-shr, number-is, answer-typed, exits-number, othersOwn, OthersLast, othersLast, load-known}
 use Rattle.table.specs.Table.{tableMemory}
 use Rattle.client.specs.Copy.{copyFreshStart}
 use Rattle.nt2.specs.Answers.{sentAnswer, copyStartOf}
-use Rattle.nt2.specs.Heads.{lesser}
-use Rattle.nt2.proofs.HeadLaws.{zeros, length-zeros, flatOf, length-flat, lesser-small, load-flat}
+use Rattle.nt2.proofs.HeadLaws.{zeros, length-zeros, flatOf, length-flat, length-few, load-flat}
+use Rattle.nt2.proofs.FewLaws.{copy-fresh-few}
 use Rattle.nt2.proofs.Head as T
 use Rattle.nt2.proofs.Lend.{typed, emptied}
+use Rattle.nt2.proofs.Leave.{end, keep, full, empty, front, apart, leaves}
 use Rattle.nt2.proofs.Boundary.{Load, calls-load-shr}
+use Rattle.nt2.proofs.Refuse.{still, ref, AllStand, nows, exits-early, refuses}
+use Rattle.server.proofs.Answer as O
 use Rattle.server.proofs.Answer.Laws as O′
+use denote.Struct.Laws as LL
 use Rattle.nt2.proofs.copy_fresh_flat as core′
 use Rattle.nt2.proofs.copy_fresh_flat.Symbol as core-def
 use Rattle.nt2.proofs.copy_fresh_flat.Symbol.{name as #nt2·copy-fresh-flat}
@@ -34,27 +38,32 @@ module _ {M : Type 1} (𝓤 : URA M) (H : Heap 𝓤) (A : Atoms 𝓤) (W : Given
       let vals = valss (typesAt (fn′.signature .params) κs) (spells κs) a in
       let last : Type 0 = OthersLast (fn′.signature .params) (fn′.ended .kept) κs a in
       let says-last : last → Fml = othersLast (fn′.signature .params) (fn′.ended .kept) κs a in
-      let Said : ℕ → last → Type 0 = λ r ws. (sentAnswer r 0 ≡ copyStartOf (copyFreshStart 64 (tableMemory (take (lesser (length hs) * 4) (flatOf hs)) (a .1 .0 .now) (a .1 .1 .0 .now)))) × (tableMemory (take (lesser (length hs) * 4) (flatOf hs)) (a .1 .0 .now) (ws .1 .0) ≡ copyFreshStart 64 (tableMemory (take (lesser (length hs) * 4) (flatOf hs)) (a .1 .0 .now) (a .1 .1 .0 .now)) .memory) in
+      let Said : ℕ → last → Type 0 = λ r ws. (sentAnswer r 0 ≡ copyStartOf (copyFreshStart 64 (tableMemory (flatOf hs) (a .1 .0 .now) (a .1 .1 .0 .now)))) × (tableMemory (flatOf hs) (a .1 .0 .now) (ws .1 .0) ≡ copyFreshStart 64 (tableMemory (flatOf hs) (a .1 .0 .now) (a .1 .1 .0 .now)) .memory) in
+      let stood : AllStand 𝓤 H A (fn′.signature .params) (fn′.ended .kept) κs a = (still W, (still W, (ref W (named 2) (κs .1 .1 .0) u16 (a .1 .1 .0), tt))) in
+      let ends = ends-at 𝓤 H A fn′.ended (stays 𝓤 H A W fn′.ended (fn′.clauses 𝓤 H A at-mem run)) (fn′.clauses 𝓤 H A at-mem run) W ((κs, qs, bounds, a, vals), g) in
       qed W ((‵ (flft (κs .0) (qs .0)) ⊛ raw (toks 𝓤 A 2 (κs .1) (qs .1))) ∷ ‵ (fsep (ShrSlice (named 0) (κs .0) T.the-row .own (a .0) (sliceVal (a .0 .ptr) (length hs) ∷ [])) (othersOwn (fn′.signature .params) κs a vals)) ∷ []) ∵
       enter ! (𝓣 .C) (𝓣 .Λ) code.function _ _ $
-      alloc1 ! (λ l₀. alloc1 ! (λ l₁. alloc1 ! (λ l₂. alloc1 ! (λ l₃. alloc1 ! (λ l₄. alloc1 ! (λ l₅. alloc1 ! (λ l₆. alloc1 ! (λ l₇. alloc1 ! (λ l₈. alloc1 ! (λ l₉. alloc1 ! (λ l₁₀. alloc1 ! (λ l₁₁. alloc0 ! $ params1 ! $
-      pass1 ! (init ! 20 refl (tt, (tt, (record { fits = are .0 .0 .1 .0 }, tt)))) $ pass1 ! (init ! 18 refl (tt, (tt, (record { fits = are .1 .0 .0 .1 .0 }, tt)))) $ pass1 ! (init ! 16 refl (tt, tt)) $ pass0 ! $
-      sets ! (rep ! 256 (lit ! tt)) 14 refl (typed 𝓤 H A W 256) $ move ! (24 ∷ 25 ∷ 14 ∷ []) $ opened ! l₄ $
+      alloc1 ! (λ l₀. alloc1 ! (λ l₁. alloc1 ! (λ l₂. alloc1 ! (λ l₃. alloc1 ! (λ l₄. alloc1 ! (λ l₅. alloc1 ! (λ l₆. alloc1 ! (λ l₇. alloc1 ! (λ l₈. alloc1 ! (λ l₉. alloc1 ! (λ l₁₀. alloc1 ! (λ l₁₁. alloc1 ! (λ l₁₂. alloc1 ! (λ l₁₃. alloc0 ! $ params1 ! $
+      pass1 ! (init ! 24 refl (tt, (tt, (record { fits = are .0 .0 .1 .0 }, tt)))) $ pass1 ! (init ! 22 refl (tt, (tt, (record { fits = are .1 .0 .0 .1 .0 }, tt)))) $ pass1 ! (init ! 20 refl (tt, tt)) $ pass0 ! $
+      sets ! (of-opd ! (load ! (from ! (fld ! refl (stop !))) (look-in ! 24 (sub ! 1 refl (whole !))))) 14 refl (tt, record { fits = are .0 .0 .1 .0 }) $ sets ! (bin ! (held ! 14 refl) (lit ! tt) tt) 12 refl (tt, tt) $
+      refuses ! (held ! 12 refl) (agg ! (and-then ! (lit ! tt) (and-then ! (lit ! tt) (and-then ! (lit ! tt) (and-then ! (lit ! tt) (no-more !)))))) 26 refl (answer-typed 𝓤 H A W (sentAnswer 14 0) (number-is 14 (lit< tt))) refl (empty (empty (empty (empty (empty (empty (full (full (empty (empty (full (full (full (full (keep (keep end))))))))))))))))
+      (λ few. via 𝓤 _ (exits-early 𝓤 H A W (fn′.signature .params) (fn′.ended .kept) κs a vals stood (κs .0) (qs .0) (toks 𝓤 A 2 (κs .1) (qs .1)) O.the-row (LL.makes O.the-type O′.the-plain 𝓤 H A) (sentAnswer 14 0) _ (number-is 14 (lit< tt)) _ (copy-fresh-few _ _ _ (length-few hs (ltb→lt _ _ few))))
+      (ends (O′.lowered (sentAnswer 14 0)) (sentAnswer 14 0) (nows 𝓤 H A (fn′.signature .params) (fn′.ended .kept) κs a stood) (tt, (tt, (tt, tt))))) (λ much. let enough = nltb→le _ _ much in
+      sets ! (rep ! 256 (lit ! tt)) 18 refl (typed 𝓤 H A W 256) $ move ! (28 ∷ 29 ∷ 18 ∷ []) $ opened ! l₄ $
       sets ! (addr ! (from ! (stop !))) 13 refl (tt, tt) $ sets ! (agg ! (and-then ! (held ! 13 refl) (and-then ! (lit ! tt) (no-more !)))) 11 refl (tt, (tt, (record { fits = lit< tt }, tt))) $
-      calls-load-shr ! fm at-mem run known-load (named 0) (κs .0) (qs .0) (a .0 .name) (a .0 .ptr .0) (a .0 .ptr .1) (length hs) hs l₄ zeros length-zeros (λ _ _. and-then ! (held ! 24 refl) (and-then ! (held ! 11 refl) (no-more !))) (λ v at.
-      land ! (from ! (stop !)) (init ! 17 refl (uint-lawful 𝓤 H A W w64 .typed (lesser (length hs)) _ at .0)) $ rewrite ! 17 (λ (u : Val). ‵ (fat fullShare (tyInt w64) l₅ 0 u)) (ap only (at .0)) refl $
+      calls-load-shr ! fm at-mem run known-load (named 0) (κs .0) (qs .0) (a .0 .name) (a .0 .ptr .0) (a .0 .ptr .1) (length hs) hs enough l₄ zeros length-zeros (λ _ _. and-then ! (held ! 28 refl) (and-then ! (held ! 11 refl) (no-more !))) (λ v at.
+      land ! (from ! (stop !)) (init ! 15 refl (nothing-lawful 𝓤 H A W .typed tt _ at .0)) $
       sets ! (addr ! (from ! (stop !))) 9 refl (tt, tt) $ sets ! (agg ! (and-then ! (held ! 9 refl) (and-then ! (lit ! tt) (no-more !)))) 7 refl (tt, (tt, (record { fits = lit< tt }, tt))) $
-      sets ! (addr ! (from ! (hop ! (look ! 20 refl) (stop !)))) 5 refl (tt, tt) $
-      calls-core-shr ! fm (Core 𝓤 H A at-mem run) known-core _ _ u8 last says-last Said l₄ (lesser (length hs)) (flatOf hs) (length-flat hs) (lesser-small (length hs))
-      (λ ν δ. (((ν ∷ [], κs .1), (fullShare, qs .1), tt, (record { ptr = (l₄, 0); name = δ; now = flatOf hs }, (lesser (length hs), a .1)), (sliceVal (l₄, 0) 256 ∷ [], (vint w64 (lesser (length hs)) ∷ [], vals .1))), tt)) (λ ν δ. id⊢ 𝓤 _) (λ ν δ w. id⊢ 𝓤 _)
-      (λ _ _. and-then ! (held ! 6 refl) (and-then ! (held ! 16 refl) (and-then ! (held ! 21 refl) (and-then ! (held ! 4 refl) (no-more !))))) (λ r ws w is e.
-      land ! (from ! (stop !)) (init ! 15 refl (uint-lawful 𝓤 H A W w8 .typed r _ is .0)) $ rewrite ! 15 (λ (u : Val). ‵ (fat fullShare (tyInt w8) l₆ 0 u)) (ap only (is .0)) refl $
-      sets ! (agg ! (and-then ! (held ! 15 refl) (and-then ! (lit ! tt) (and-then ! (lit ! tt) (and-then ! (lit ! tt) (no-more !)))))) 26 refl (number-typed 𝓤 H A W r w is) $
-      returns ! (look ! 26 refl) $ use1 W (‵ (froom (tyArray (tyInt w16) 256) l₄ 0)) (emptied 𝓤 H A W 256 l₄ (flatOf hs) (length-flat hs)) $
-      forget ! 5 refl $ forget ! 7 refl $ forget ! 9 refl $ forget ! 11 refl $ forget ! 13 refl $ forget ! 15 refl $ forget ! 17 refl $ forget ! 20 refl $ forget ! 22 refl $ forget ! 24 refl $ forget ! 26 refl $
-      move ! (26 ∷ 27 ∷ []) $ free1 ! $ move ! (24 ∷ 25 ∷ []) $ free1 ! $ move ! (22 ∷ 23 ∷ []) $ free1 ! $ move ! (20 ∷ 21 ∷ []) $ free1 ! $ move ! (0 ∷ 19 ∷ []) $ free1 ! $ move ! (16 ∷ 17 ∷ []) $ free1 ! $ move ! (14 ∷ 15 ∷ []) $ free1 ! $ move ! (12 ∷ 13 ∷ []) $ free1 ! $ move ! (10 ∷ 11 ∷ []) $ free1 ! $ move ! (8 ∷ 9 ∷ []) $ free1 ! $ move ! (6 ∷ 7 ∷ []) $ free1 ! $ move ! (4 ∷ 5 ∷ []) $ free1 ! $ free0 ! $
-      by ! (via 𝓤 _ (exits-number 𝓤 H A W (κs .0) (qs .0) (a .0 .name) (a .0 .ptr .0) (a .0 .ptr .1) hs (toks 𝓤 A 2 (κs .1) (qs .1)) (says-last ws) _ r w is (rw (← (load-flat hs)) e))
-      (ends-at 𝓤 H A fn′.ended (stays 𝓤 H A W fn′.ended (fn′.clauses 𝓤 H A at-mem run)) (fn′.clauses 𝓤 H A at-mem run) W ((κs, qs, bounds, a, vals), g) (O′.lowered (sentAnswer r 0)) (sentAnswer r 0) (tt, ws) (tt, (tt, (tt, tt))))))))))))))))))))
+      sets ! (addr ! (from ! (hop ! (look ! 24 refl) (stop !)))) 5 refl (tt, tt) $
+      calls-core-shr ! fm (Core 𝓤 H A at-mem run) known-core _ _ u8 last says-last Said l₄ (flatOf hs) (length-flat hs)
+      (λ ν δ. (((ν ∷ [], κs .1), (fullShare, qs .1), tt, (record { ptr = (l₄, 0); name = δ; now = flatOf hs }, a .1), (sliceVal (l₄, 0) 256 ∷ [], vals .1)), tt)) (λ ν δ. id⊢ 𝓤 _) (λ ν δ w. id⊢ 𝓤 _)
+      (λ _ _. and-then ! (held ! 6 refl) (and-then ! (held ! 25 refl) (and-then ! (held ! 4 refl) (no-more !)))) (λ r ws w is e.
+      land ! (from ! (stop !)) (init ! 21 refl (uint-lawful 𝓤 H A W w8 .typed r _ is .0)) $ rewrite ! 21 (λ (u : Val). ‵ (fat fullShare (tyInt w8) l₅ 0 u)) (ap only (is .0)) refl $
+      sets ! (agg ! (and-then ! (held ! 21 refl) (and-then ! (lit ! tt) (and-then ! (lit ! tt) (and-then ! (lit ! tt) (no-more !)))))) 30 refl (answer-typed 𝓤 H A W (sentAnswer r 0) (number-is r (is .1))) $
+      returns ! (look ! 30 refl) $ use1 W (‵ (froom (tyArray (tyInt w16) 256) l₄ 0)) (emptied 𝓤 H A W 256 l₄ (flatOf hs) (length-flat hs)) $
+      leaves ! (front (keep (keep (keep (keep (full (full (full (full (full (full (full (full (full (apart (full (full (full (full end))))))))))))))))))) $
+      by ! (via 𝓤 _ (exits-number 𝓤 H A W (κs .0) (qs .0) (a .0 .name) (a .0 .ptr .0) (a .0 .ptr .1) hs (toks 𝓤 A 2 (κs .1) (qs .1)) (says-last ws) _ r w is (rw (← (load-flat hs enough)) e))
+      (ends (O′.lowered (sentAnswer r 0)) (sentAnswer r 0) (tt, ws) (tt, (tt, (tt, tt)))))))))))))))))))))))
 
 pub nt2-copy-fresh-spec : {M : Type 1} → stated.statement M
 unfolding code.routine tablesOf

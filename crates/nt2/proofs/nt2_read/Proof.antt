@@ -1,13 +1,19 @@
 -- `nt2::nt2_read` meets its contract: a walk of its MIR, by hand, with the steps of `Calls.antt`.
-use Rattle.nt2.proofs.Calls.{_≡_, refl, ap, _*_, [], _∷_, Holds, lit<, length, take, URA, fullShare, named, w16, w64, tyInt, tyArray, Val, WT, hasTy, vint, SProp, id⊢, via, Fml, fsep, fat, froom, flft, Memory, Routine, Heap, WpFn, Tables, Atoms, Fun, givenOf, tables, tablesOf, Lfts, toks, Given, ‵, raw, _⊛_, _$_, _∵_, !, qed, by, move, use1, rewrite, agg, rep, look, init, forget, stop, hop, from, lit, addr, and-then, no-more, land, returns, enter, alloc1, alloc0, params1, pass1, pass0, free1, free0, fmOf, WpFn-mono, Is, Spells, valss, uint-vals, uint-tells, uint-lawful, u8, u16, ptr-vals, mut-tells, sliceVal, ShrSlice, slice-vals, shr-slice-tells, typesAt, only, Meets, tripleOf, Contract, Triple, entered, cited, ends-at, #nt2·load, load-known, held, sets, stays, through, othersOwn, OthersLast, othersLast, opened, calls-core-shr, exits-shr}
+use Rattle.nt2.proofs.Calls.{_≡_, refl, [], _∷_, Holds, lit<, ltb→lt, nltb→le, length, URA, fullShare, named, w16, tyInt, tyArray, Val, WT, hasTy, SProp, id⊢, via, Fml, fsep, froom, flft, Heap, WpFn, Tables, Atoms, Fun, Lfts, toks, Given, ‵, raw, _⊛_, _$_, _∵_, !, qed, by, move, use1, look, init, stop, hop, fld, from, load, lit, false-lit, float-lit, addr, of-opd, bin, and-then, no-more, land, returns, enter, alloc1, alloc0, params1, pass1, pass0, fmOf, WpFn-mono, Is, Spells, valss, uint-vals, uint-tells, nothing-lawful, u8, u16, ptr-vals, mut-tells, sliceVal, ShrSlice, slice-vals, shr-slice-tells, typesAt, Meets, tripleOf, Contract, Triple, ends-at, Memory, Routine, givenOf, tables, tablesOf, agg, rep, whole, sub, look-in, entered, cited, #nt2·load, stays, through, held, sets, opened, calls-core-shr, exits-shr, othersOwn, OthersLast, othersLast, load-known}
+use lib.Ieee.{binary64}
+use lib.Ieee.Bits.{ofBits-fits}
+use denote.Floats.{is-true}
+use Rattle.scalar.specs.declared.Scalar.the-variants.{Refused}
 use Rattle.table.specs.Table.{tableMemory}
 use Rattle.server.specs.Step.{readScalar}
 use Rattle.nt2.specs.Answers.{scalarAnswer}
-use Rattle.nt2.specs.Heads.{lesser}
-use Rattle.nt2.proofs.HeadLaws.{zeros, length-zeros, flatOf, length-flat, lesser-small, load-flat}
+use Rattle.nt2.proofs.HeadLaws.{zeros, length-zeros, flatOf, length-flat, length-few, load-flat}
+use Rattle.nt2.proofs.FewLaws.{read-few}
 use Rattle.nt2.proofs.Head as T
 use Rattle.nt2.proofs.Lend.{typed, emptied}
+use Rattle.nt2.proofs.Leave.{end, keep, full, empty, front, apart, leaves}
 use Rattle.nt2.proofs.Boundary.{Load, calls-load-shr}
+use Rattle.nt2.proofs.Refuse.{still, ref, AllStand, nows, exits-early, refuses}
 use Rattle.nt2.proofs.ScalarAnswer as O
 use Rattle.nt2.proofs.ScalarAnswer.Laws as O′
 use denote.Struct.Laws as LL
@@ -31,6 +37,12 @@ module _ {M : Type 1} (𝓤 : URA M) (H : Heap 𝓤) (A : Atoms 𝓤) (W : Given
   returned : (r : O.the-row .Denot) (w : Val) → Is O.the-row r (w ∷ []) → Holds (hasTy O′.mir w) × WT w
   returned r w is = LL.lawful O.the-type O′.the-laws 𝓤 H A W .typed r _ is .0
 
+  abbrev early : O.the-row .Denot
+  early = scalarAnswer (Refused 14)
+
+  refused : Is O.the-row early (O′.lowered early ∷ [])
+  refused = LL.owes O.the-type O′.the-laws early ((refl, lit< tt), ((refl, lit< tt), (refl, ((refl, is-true _ (ofBits-fits binary64 0)), tt))))
+
   meets : Meets 𝓤 H A fn′.signature (WpFn 𝓤 H (𝓣 .C) (𝓣 .Λ) code.function) (fn′.spec 𝓤 H A at-mem run)
   meets = through 𝓤 H A W fn′.ended (fn′.clauses 𝓤 H A at-mem run) (WpFn 𝓤 H (𝓣 .C) (𝓣 .Λ) code.function) (WpFn-mono 𝓤 H (W .laws) 𝓣 code.function) spells
       (λ κs. (shr-slice-tells (named 0) (κs .0) T.the-row, (shr-slice-tells (named 1) (κs .1 .0) u8, (mut-tells (named 2) (κs .1 .1 .0) u16, (uint-tells w16, tt))))) (λ κs qs bounds a g are.
@@ -39,26 +51,31 @@ module _ {M : Type 1} (𝓤 : URA M) (H : Heap 𝓤) (A : Atoms 𝓤) (W : Given
       let vals = valss (typesAt (fn′.signature .params) κs) (spells κs) a in
       let last : Type 0 = OthersLast (fn′.signature .params) (fn′.ended .kept) κs a in
       let says-last : last → Fml = othersLast (fn′.signature .params) (fn′.ended .kept) κs a in
-      let Said : O.the-row .Denot → last → Type 0 = λ r ws. (r ≡ scalarAnswer (readScalar 64 (tableMemory (take (lesser (length hs) * 4) (flatOf hs)) (a .1 .0 .now) (a .1 .1 .0 .now)) (a .1 .1 .1 .0))) × ((ws .1 .0) ≡ (a .1 .1 .0 .now)) in
+      let Said : O.the-row .Denot → last → Type 0 = λ r ws. (r ≡ scalarAnswer (readScalar 64 (tableMemory (flatOf hs) (a .1 .0 .now) (a .1 .1 .0 .now)) (a .1 .1 .1 .0))) × ((ws .1 .0) ≡ (a .1 .1 .0 .now)) in
+      let stood : AllStand 𝓤 H A (fn′.signature .params) (fn′.ended .kept) κs a = (still W, (still W, (ref W (named 2) (κs .1 .1 .0) u16 (a .1 .1 .0), (still W, tt)))) in
+      let ends = ends-at 𝓤 H A fn′.ended (stays 𝓤 H A W fn′.ended (fn′.clauses 𝓤 H A at-mem run)) (fn′.clauses 𝓤 H A at-mem run) W ((κs, qs, bounds, a, vals), g) in
       qed W ((‵ (flft (κs .0) (qs .0)) ⊛ raw (toks 𝓤 A 2 (κs .1) (qs .1))) ∷ ‵ (fsep (ShrSlice (named 0) (κs .0) T.the-row .own (a .0) (sliceVal (a .0 .ptr) (length hs) ∷ [])) (othersOwn (fn′.signature .params) κs a vals)) ∷ []) ∵
       enter ! (𝓣 .C) (𝓣 .Λ) code.function _ _ $
-      alloc1 ! (λ l₀. alloc1 ! (λ l₁. alloc1 ! (λ l₂. alloc1 ! (λ l₃. alloc1 ! (λ l₄. alloc1 ! (λ l₅. alloc1 ! (λ l₆. alloc1 ! (λ l₇. alloc1 ! (λ l₈. alloc1 ! (λ l₉. alloc1 ! (λ l₁₀. alloc1 ! (λ l₁₁. alloc0 ! $ params1 ! $
-      pass1 ! (init ! 20 refl (tt, (tt, (record { fits = are .0 .0 .1 .0 }, tt)))) $ pass1 ! (init ! 18 refl (tt, (tt, (record { fits = are .1 .0 .0 .1 .0 }, tt)))) $ pass1 ! (init ! 16 refl (tt, tt)) $ pass1 ! (init ! 14 refl (tt, record { fits = are .1 .1 .1 .0 .1 })) $ pass0 ! $
-      sets ! (rep ! 256 (lit ! tt)) 12 refl (typed 𝓤 H A W 256) $ move ! (24 ∷ 25 ∷ 12 ∷ []) $ opened ! l₅ $
+      alloc1 ! (λ l₀. alloc1 ! (λ l₁. alloc1 ! (λ l₂. alloc1 ! (λ l₃. alloc1 ! (λ l₄. alloc1 ! (λ l₅. alloc1 ! (λ l₆. alloc1 ! (λ l₇. alloc1 ! (λ l₈. alloc1 ! (λ l₉. alloc1 ! (λ l₁₀. alloc1 ! (λ l₁₁. alloc1 ! (λ l₁₂. alloc1 ! (λ l₁₃. alloc0 ! $ params1 ! $
+      pass1 ! (init ! 24 refl (tt, (tt, (record { fits = are .0 .0 .1 .0 }, tt)))) $ pass1 ! (init ! 22 refl (tt, (tt, (record { fits = are .1 .0 .0 .1 .0 }, tt)))) $ pass1 ! (init ! 20 refl (tt, tt)) $ pass1 ! (init ! 18 refl (tt, record { fits = are .1 .1 .1 .0 .1 })) $ pass0 ! $
+      sets ! (of-opd ! (load ! (from ! (fld ! refl (stop !))) (look-in ! 24 (sub ! 1 refl (whole !))))) 14 refl (tt, record { fits = are .0 .0 .1 .0 }) $ sets ! (bin ! (held ! 14 refl) (lit ! tt) tt) 12 refl (tt, tt) $
+      refuses ! (held ! 12 refl) (agg ! (and-then ! (lit ! tt) (and-then ! (lit ! tt) (and-then ! (false-lit !) (and-then ! (float-lit ! tt) (no-more !)))))) 26 refl (returned early _ refused) refl (empty (empty (empty (empty (empty (empty (full (full (empty (full (full (full (full (full (keep (keep end))))))))))))))))
+      (λ few. via 𝓤 _ (exits-early 𝓤 H A W (fn′.signature .params) (fn′.ended .kept) κs a vals stood (κs .0) (qs .0) (toks 𝓤 A 2 (κs .1) (qs .1)) O.the-row (LL.makes O.the-type O′.the-plain 𝓤 H A) (early) _ (refused) _ (read-few _ _ _ (length-few hs (ltb→lt _ _ few)) _, refl))
+      (ends (O′.lowered (early)) (early) (nows 𝓤 H A (fn′.signature .params) (fn′.ended .kept) κs a stood) (tt, (tt, (tt, (tt, tt)))))) (λ much. let enough = nltb→le _ _ much in
+      sets ! (rep ! 256 (lit ! tt)) 16 refl (typed 𝓤 H A W 256) $ move ! (28 ∷ 29 ∷ 16 ∷ []) $ opened ! l₅ $
       sets ! (addr ! (from ! (stop !))) 13 refl (tt, tt) $ sets ! (agg ! (and-then ! (held ! 13 refl) (and-then ! (lit ! tt) (no-more !)))) 11 refl (tt, (tt, (record { fits = lit< tt }, tt))) $
-      calls-load-shr ! fm at-mem run known-load (named 0) (κs .0) (qs .0) (a .0 .name) (a .0 .ptr .0) (a .0 .ptr .1) (length hs) hs l₅ zeros length-zeros (λ _ _. and-then ! (held ! 24 refl) (and-then ! (held ! 11 refl) (no-more !))) (λ v at.
-      land ! (from ! (stop !)) (init ! 15 refl (uint-lawful 𝓤 H A W w64 .typed (lesser (length hs)) _ at .0)) $ rewrite ! 15 (λ (u : Val). ‵ (fat fullShare (tyInt w64) l₆ 0 u)) (ap only (at .0)) refl $
+      calls-load-shr ! fm at-mem run known-load (named 0) (κs .0) (qs .0) (a .0 .name) (a .0 .ptr .0) (a .0 .ptr .1) (length hs) hs enough l₅ zeros length-zeros (λ _ _. and-then ! (held ! 28 refl) (and-then ! (held ! 11 refl) (no-more !))) (λ v at.
+      land ! (from ! (stop !)) (init ! 15 refl (nothing-lawful 𝓤 H A W .typed tt _ at .0)) $
       sets ! (addr ! (from ! (stop !))) 9 refl (tt, tt) $ sets ! (agg ! (and-then ! (held ! 9 refl) (and-then ! (lit ! tt) (no-more !)))) 7 refl (tt, (tt, (record { fits = lit< tt }, tt))) $
-      sets ! (addr ! (from ! (hop ! (look ! 20 refl) (stop !)))) 5 refl (tt, tt) $
-      calls-core-shr ! fm (Core 𝓤 H A at-mem run) known-core _ _ O.the-row last says-last Said l₅ (lesser (length hs)) (flatOf hs) (length-flat hs) (lesser-small (length hs))
-      (λ ν δ. (((ν ∷ [], κs .1), (fullShare, qs .1), tt, (record { ptr = (l₅, 0); name = δ; now = flatOf hs }, (lesser (length hs), a .1)), (sliceVal (l₅, 0) 256 ∷ [], (vint w64 (lesser (length hs)) ∷ [], vals .1))), tt)) (λ ν δ. id⊢ 𝓤 _) (λ ν δ w. id⊢ 𝓤 _)
-      (λ _ _. and-then ! (held ! 6 refl) (and-then ! (held ! 14 refl) (and-then ! (held ! 21 refl) (and-then ! (held ! 4 refl) (and-then ! (held ! 17 refl) (no-more !)))))) (λ r ws w is e.
-      land ! (from ! (stop !)) (init ! 26 refl (returned r w is)) $
-      returns ! (look ! 26 refl) $ use1 W (‵ (froom (tyArray (tyInt w16) 256) l₅ 0)) (emptied 𝓤 H A W 256 l₅ (flatOf hs) (length-flat hs)) $
-      forget ! 5 refl $ forget ! 7 refl $ forget ! 9 refl $ forget ! 11 refl $ forget ! 13 refl $ forget ! 15 refl $ forget ! 18 refl $ forget ! 20 refl $ forget ! 22 refl $ forget ! 24 refl $ forget ! 26 refl $
-      move ! (26 ∷ 27 ∷ []) $ free1 ! $ move ! (24 ∷ 25 ∷ []) $ free1 ! $ move ! (22 ∷ 23 ∷ []) $ free1 ! $ move ! (20 ∷ 21 ∷ []) $ free1 ! $ move ! (18 ∷ 19 ∷ []) $ free1 ! $ move ! (0 ∷ 17 ∷ []) $ free1 ! $ move ! (14 ∷ 15 ∷ []) $ free1 ! $ move ! (12 ∷ 13 ∷ []) $ free1 ! $ move ! (10 ∷ 11 ∷ []) $ free1 ! $ move ! (8 ∷ 9 ∷ []) $ free1 ! $ move ! (6 ∷ 7 ∷ []) $ free1 ! $ move ! (4 ∷ 5 ∷ []) $ free1 ! $ free0 ! $
-      by ! (via 𝓤 _ (exits-shr 𝓤 H A W (κs .0) (qs .0) (a .0 .name) (a .0 .ptr .0) (a .0 .ptr .1) hs (toks 𝓤 A 2 (κs .1) (qs .1)) (says-last ws) (O.the-row .own r (w ∷ [])) _ (rw (← (load-flat hs)) e))
-      (ends-at 𝓤 H A fn′.ended (stays 𝓤 H A W fn′.ended (fn′.clauses 𝓤 H A at-mem run)) (fn′.clauses 𝓤 H A at-mem run) W ((κs, qs, bounds, a, vals), g) w r (tt, ws) (tt, (tt, (tt, (tt, tt)))))))))))))))))))))
+      sets ! (addr ! (from ! (hop ! (look ! 24 refl) (stop !)))) 5 refl (tt, tt) $
+      calls-core-shr ! fm (Core 𝓤 H A at-mem run) known-core _ _ O.the-row last says-last Said l₅ (flatOf hs) (length-flat hs)
+      (λ ν δ. (((ν ∷ [], κs .1), (fullShare, qs .1), tt, (record { ptr = (l₅, 0); name = δ; now = flatOf hs }, a .1), (sliceVal (l₅, 0) 256 ∷ [], vals .1)), tt)) (λ ν δ. id⊢ 𝓤 _) (λ ν δ w. id⊢ 𝓤 _)
+      (λ _ _. and-then ! (held ! 6 refl) (and-then ! (held ! 25 refl) (and-then ! (held ! 4 refl) (and-then ! (held ! 21 refl) (no-more !))))) (λ r ws w is e.
+      land ! (from ! (stop !)) (init ! 30 refl (returned r w is)) $
+      returns ! (look ! 30 refl) $ use1 W (‵ (froom (tyArray (tyInt w16) 256) l₅ 0)) (emptied 𝓤 H A W 256 l₅ (flatOf hs) (length-flat hs)) $
+      leaves ! (front (keep (keep (keep (keep (full (full (full (full (full (full (full (full (apart (full (full (full (full (full end))))))))))))))))))) $
+      by ! (via 𝓤 _ (exits-shr 𝓤 H A W (κs .0) (qs .0) (a .0 .name) (a .0 .ptr .0) (a .0 .ptr .1) hs (toks 𝓤 A 2 (κs .1) (qs .1)) (says-last ws) (O.the-row .own r (w ∷ [])) _ (rw (← (load-flat hs enough)) e))
+      (ends w r (tt, ws) (tt, (tt, (tt, (tt, tt))))))))))))))))))))))))
 
 pub nt2-read-spec : {M : Type 1} → stated.statement M
 unfolding code.routine tablesOf

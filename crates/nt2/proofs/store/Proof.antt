@@ -24,7 +24,7 @@ use contract.Monad.{Fun, fact}
 use contract.Running.{givenOf, tables, tablesOf}
 use types.Kit.{Given, Item, ‵, raw, later, some, _⊛_, ⋆, Sq, runs, anyQ, atRet, _$_, _∵_, !, qed, by, move, drop, use0, use1, use2, split, join, pick, rewrite, fsplit, fjoin, feqI, suffices, frame, await, done}
 use types.Part.{whole, sub, look-in}
-use types.Run.{look, init, store, forget, stop, hop, fld, from, load, lit, unit-lit, of-opd, bin, and-then, no-more, assigns, assigns-last, land, first, skips, jumps, blocks, branches, exec, Below, again, loops, returns, enter, alloc1, alloc0, params1, pass1, pass0, free1, free0}
+use types.Run.{look, init, store, forget, stop, hop, fld, from, load, lit, unit-lit, of-opd, bin, and-then, no-more, assigns, assigns-last, land, first, skips, jumps, blocks, branches, exec, Below, again, loops, returns, enter, alloc1, alloc0, params1, pass1, pass0}
 use denote.Shadow.{pureI}
 use sound.WpLaws.{fmOf, WpFn-mono}
 use denote.RattleType.{RattleType, owns}
@@ -48,9 +48,10 @@ use denote.Triple.Walked.{says, needs, Stays, stay-dropped, stay-slice, stay-non
 use denote.Exit.{yes}
 use Rattle.nt2.specs.declared.Head.{Head}
 use Rattle.nt2.specs.Heads.{noHead, changed, headAt, stored}
-use Rattle.nt2.proofs.HeadLaws.{length-stored, stored-next, stored-none, changed-small, changed-within}
+use Rattle.nt2.proofs.HeadLaws.{length-stored, stored-next, stored-none, changed-small}
 use Rattle.nt2.proofs.Head as T
 use Rattle.nt2.proofs.Head.Laws as T′
+use Rattle.nt2.proofs.Leave.{end, keep, full, empty, leaves}
 use Rattle.nt2.proofs.Walk.{after, offset-fits, place-within, next-fits, next-le, next-less, small, within-trans}
 use Rattle.nt2.proofs.changed as changed′
 use Rattle.nt2.proofs.changed.Symbol as changed-def
@@ -77,14 +78,14 @@ module _ {M : Type 1} (𝓤 : URA M) (H : Heap 𝓤) (A : Atoms 𝓤) (mem : Mem
   abbrev Pick : Contract 𝓤
   Pick = tripleOf 𝓤 H A head-at.signature (head-at.spec 𝓤 H A mem run)
 
-  min-of : (number n r : ℕ) → ent 𝓤 (ensured 𝓤 H A changed′.ended (changed′.clauses 𝓤 H A mem run) tt (number, (n, tt)) tt r) (fact 𝓤 (r ≡ changed number n))
-  min-of number n r = exE 𝓤 _ (λ ws. snd∗ 𝓤 (sem 𝓤 H A (lasts changed′.ended tt (number, (n, tt)) ws)) (fact 𝓤 (r ≡ changed number n)))
+  min-of : (number r : ℕ) → ent 𝓤 (ensured 𝓤 H A changed′.ended (changed′.clauses 𝓤 H A mem run) tt (number, tt) tt r) (fact 𝓤 (r ≡ changed number))
+  min-of number r = exE 𝓤 _ (λ ws. snd∗ 𝓤 (sem 𝓤 H A (lasts changed′.ended tt (number, tt) ws)) (fact 𝓤 (r ≡ changed number)))
 
   pick-of : (κ : Lft) (y : RefT (List ℕ)) (i : ℕ) (r : Head) → ent 𝓤 (ensured 𝓤 H A head-at.ended (head-at.clauses 𝓤 H A mem run) (κ, tt) (y, (i, tt)) tt r) (fact 𝓤 (r ≡ headAt (y .now) i))
   pick-of κ y i r = exE 𝓤 _ (λ ws. snd∗ 𝓤 (sem 𝓤 H A (lasts head-at.ended (κ, tt) (y, (i, tt)) ws)) (fact 𝓤 (r ≡ headAt (y .now) i)))
 
 module _ {M : Type 1} (𝓤 : URA M) (H : Heap 𝓤) (A : Atoms 𝓤) (W : Given 𝓤 H A) (mem : Memory → SProp 𝓤) (run : Routine → Fun 𝓤) (κ κ′ : Lft) (q q′ : Share) (number : ℕ) (b′ o′ : ℕ) (γ′ : GName) (ys : List ℕ) (b o : ℕ) (γ : GName) (hs : List Head)
-    (byte : number < 2 ^ 8) (room′ : Room u16 (length ys)) (room : Room T.the-row (length hs)) (wide : 256 ≤ length ys) where
+    (byte : number < 2 ^ 8) (room′ : Room u16 (length ys)) (room : Room T.the-row (length hs)) (enough : 64 ≤ length hs) (wide : 256 ≤ length ys) where
   abbrev R : RattleType
   R = T.the-row
 
@@ -127,12 +128,12 @@ module _ {M : Type 1} (𝓤 : URA M) (H : Heap 𝓤) (A : Atoms 𝓤) (W : Given
   len k = length-stored k ys hs
 
   -- n is what `changed` returned
-  module _ (n : ℕ) (n-is : n ≡ changed number (length hs)) where
+  module _ (n : ℕ) (n-is : n ≡ changed number) where
     n-small : n ≤ 64
-    n-small = subst (λ (k : ℕ). k ≤ 64) (sym n-is) (changed-small number (length hs))
+    n-small = subst (λ (k : ℕ). k ≤ 64) (sym n-is) (changed-small number)
 
     n-within : n ≤ length hs
-    n-within = subst (λ (k : ℕ). k ≤ length hs) (sym n-is) (changed-within number (length hs))
+    n-within = let h : n ≤ 64 = n-small in omega arith
 
     exits : ent 𝓤 (⋆ 𝓤 H A (FlatI ∷ ‵ (flft κ q) ∷ HeadsI (zs n) ∷ ‵ (flft κ′ q′) ∷ [])) (Post vunit)
     exits =
@@ -173,7 +174,7 @@ module _ {M : Type 1} (𝓤 : URA M) (H : Heap 𝓤) (A : Atoms 𝓤) (W : Given
     abbrev heads-ty : Ty
     heads-ty = sliceTy (tyRef (named 1) mut (pointee (R .written)))
 
-    module _ (𝓣 : Tables 𝓤 H) (known-pick : Triple 𝓤 (𝓣 .C #nt2·head-at) (Pick 𝓤 H A mem run)) (l₀ l₁ l₂ l₃ l₄ l₅ l₆ l₇ l₈ l₉ l₁₀ : ℕ) where
+    module _ (𝓣 : Tables 𝓤 H) (known-pick : Triple 𝓤 (𝓣 .C #nt2·head-at) (Pick 𝓤 H A mem run)) (l₀ l₁ l₂ l₃ l₄ l₅ l₆ l₇ l₈ l₉ : ℕ) where
       abbrev C : Calls 𝓤 H
       C = 𝓣 .C
 
@@ -181,38 +182,38 @@ module _ {M : Type 1} (𝓤 : URA M) (H : Heap 𝓤) (A : Atoms 𝓤) (W : Given
       Λ = 𝓣 .Λ
 
       abbrev En : Env 𝓤 H
-      En = (tyUnit, l₀) ∷ (tyInt w8, l₁) ∷ (flat-ty, l₂) ∷ (heads-ty, l₃) ∷ (word, l₄) ∷ (word, l₅) ∷ (word, l₆) ∷ (tyBool, l₇) ∷ (T′.mir, l₈) ∷ (word, l₉) ∷ (tyPtr, l₁₀) ∷ []
+      En = (tyUnit, l₀) ∷ (tyInt w8, l₁) ∷ (flat-ty, l₂) ∷ (heads-ty, l₃) ∷ (word, l₄) ∷ (word, l₅) ∷ (tyBool, l₆) ∷ (T′.mir, l₇) ∷ (word, l₈) ∷ (tyPtr, l₉) ∷ []
 
       -- the invariant: i heads are made
       abbrev At : Upto → List (Item 𝓤)
       At i = FlatI ∷ ‵ (flft κ q) ∷ HeadsI (zs (i .0)) ∷ ‵ (flft κ′ q′)
-          ∷ ‵ (froom tyPtr l₁₀ 0) ∷ ‵ (fdies tyPtr l₁₀) ∷ ‵ (froom word l₉ 0) ∷ ‵ (fdies word l₉) ∷ ‵ (froom T′.mir l₈ 0) ∷ ‵ (fdies T′.mir l₈) ∷ ‵ (froom tyBool l₇ 0) ∷ ‵ (fdies tyBool l₇) ∷ ‵ (froom word l₆ 0) ∷ ‵ (fdies word l₆)
+          ∷ ‵ (froom tyPtr l₉ 0) ∷ ‵ (fdies tyPtr l₉) ∷ ‵ (froom word l₈ 0) ∷ ‵ (fdies word l₈) ∷ ‵ (froom T′.mir l₇ 0) ∷ ‵ (fdies T′.mir l₇) ∷ ‵ (froom tyBool l₆ 0) ∷ ‵ (fdies tyBool l₆)
           ∷ ‵ (fat fullShare word l₅ 0 (vint w64 (i .0))) ∷ ‵ (fdies word l₅) ∷ ‵ (fat fullShare word l₄ 0 (vint w64 n)) ∷ ‵ (fdies word l₄) ∷ ‵ (fat fullShare heads-ty l₃ 0 s) ∷ ‵ (fdies heads-ty l₃)
           ∷ ‵ (fat fullShare flat-ty l₂ 0 t) ∷ ‵ (fdies flat-ty l₂) ∷ ‵ (fat fullShare (tyInt w8) l₁ 0 (vint w8 number)) ∷ ‵ (fdies (tyInt w8) l₁) ∷ ‵ (froom tyUnit l₀ 0) ∷ ‵ (fdies tyUnit l₀) ∷ []
 
       -- a turn's postcondition: it ends nearer to n, or the loop is left and the rest of the body runs
       abbrev Turned : Upto → Out → SProp 𝓤
-      Turned i = afterTurn 𝓤 H (Below 𝓤 H A Nearer At i) (afterBlock 𝓤 H (afterSeq 𝓤 H (Wp 𝓤 H C Λ En mir′.t-5 (atReturn 𝓤 H En Post)) (atReturn 𝓤 H En Post)))
+      Turned i = afterTurn 𝓤 H (Below 𝓤 H A Nearer At i) (afterBlock 𝓤 H (afterSeq 𝓤 H (Wp 𝓤 H C Λ En mir′.t-4 (atReturn 𝓤 H En Post)) (atReturn 𝓤 H En Post)))
 
       turns : (i : Upto) → Sq W (At i) (runs C Λ En mir′.turn-1 (anyQ (Turned i)))
       unfolding afterTurn
       turns i =
-          assigns ! (bin ! (load ! (from ! (stop !)) (look ! 14 refl)) (load ! (from ! (stop !)) (look ! 16 refl)) tt) (from ! (stop !)) (init ! 10 refl (tt, tt)) $
+          assigns ! (bin ! (load ! (from ! (stop !)) (look ! 12 refl)) (load ! (from ! (stop !)) (look ! 14 refl)) tt) (from ! (stop !)) (init ! 10 refl (tt, tt)) $
           first ! $ branches ! (load ! (from ! (stop !)) (look ! 10 refl))
           (λ less. skips ! $ exec ! C Λ En (after (after mir′.turn-1)) (anyQ (Turned i)) $
           -- `head_at` has a copy of flat
           use1 W (FlatI ⊛ FlatI) (shr-slice-copy 𝓤 H A W (named 0) κ u16 .twice y (t ∷ [])) $ split ! $ move ! (2 ∷ 0 ∷ []) $ use2 W (raw (Pick 𝓤 H A mem run .pre (to-pick (i .0)))) (goes-pick (i .0) (ltb→lt (i .0) n less)) $
-          calls-at ! (fmOf 𝓤 H (W .laws) 𝓣) (Pick 𝓤 H A mem run) known-pick (to-pick (i .0)) (and-then ! (load ! (from ! (stop !)) (look ! 20 refl)) (and-then ! (load ! (from ! (stop !)) (look ! 14 refl)) (no-more !))) (λ w.
+          calls-at ! (fmOf 𝓤 H (W .laws) 𝓣) (Pick 𝓤 H A mem run) known-pick (to-pick (i .0)) (and-then ! (load ! (from ! (stop !)) (look ! 18 refl)) (and-then ! (load ! (from ! (stop !)) (look ! 12 refl)) (no-more !))) (λ w.
           use1 W (later (some (λ (r : Head). ((‵ (flft κ q) ⊛ ‵ ftrue) ⊛ ‵ (R .own r (w ∷ []))) ⊛ raw (ensured 𝓤 H A head-at.ended (head-at.clauses 𝓤 H A mem run) (κ, tt) (y, (i .0, tt)) tt r)))) (id⊢ 𝓤 _) $ await ! tt $ pick ! (λ r.
           split ! $ move ! (1 ∷ []) $ use1 W (raw (fact 𝓤 (r ≡ headAt ys (i .0)))) (pick-of 𝓤 H A mem run κ y (i .0) r) $ heard ! (r ≡ headAt ys (i .0)) (λ e. split ! $ move ! (1 ∷ []) $
           peeks ! R (Is R) (shows 𝓤 H A R) r (w ∷ []) (λ is.
           -- [what the result owns; the tokens; flat; heads; its token; _9; …]
-          land ! (from ! (stop !)) (init ! 9 refl (LL.lawful T.the-type T′.the-laws 𝓤 H A W .typed r _ is .0)) $ rewrite ! 9 (λ (u : Val). ‵ (fat fullShare T′.mir l₈ 0 u)) (ap only (tells r w is)) refl $
+          land ! (from ! (stop !)) (init ! 9 refl (LL.lawful T.the-type T′.the-laws 𝓤 H A W .typed r _ is .0)) $ rewrite ! 9 (λ (u : Val). ‵ (fat fullShare T′.mir l₇ 0 u)) (ap only (tells r w is)) refl $
           drop ! $ split ! $ move ! (1 ∷ []) $ drop ! $ move ! (1 ∷ []) $
           -- [flat; its token; heads; its token; _9; …]
-          assigns ! (bin ! (load ! (from ! (stop !)) (look ! 14 refl)) (lit ! tt) (record { fits = off less })) (from ! (stop !)) (init ! 6 refl (tt, record { fits = off less })) $
-          assigns ! (bin ! (load ! (from ! (fld ! refl (stop !))) (look-in ! 18 (sub ! 0 refl (whole !)))) (load ! (from ! (stop !)) (look ! 6 refl)) tt) (from ! (stop !)) (init ! 4 refl (tt, tt)) $
-          rewrite ! 4 (λ (p : ℕ). ‵ (fat fullShare tyPtr l₁₀ 0 (vptr b p))) (sym (place-is 8 o (i .0))) refl $
+          assigns ! (bin ! (load ! (from ! (stop !)) (look ! 12 refl)) (lit ! tt) (record { fits = off less })) (from ! (stop !)) (init ! 6 refl (tt, record { fits = off less })) $
+          assigns ! (bin ! (load ! (from ! (fld ! refl (stop !))) (look-in ! 16 (sub ! 0 refl (whole !)))) (load ! (from ! (stop !)) (look ! 6 refl)) tt) (from ! (stop !)) (init ! 4 refl (tt, tt)) $
+          rewrite ! 4 (λ (p : ℕ). ‵ (fat fullShare tyPtr l₉ 0 (vptr b p))) (sym (place-is 8 o (i .0))) refl $
           -- `heads` is opened
           move ! (2 ∷ []) $ fsplit ! $ move ! (1 ∷ []) $ fsplit ! $ move ! (0 ∷ 1 ∷ 5 ∷ []) $
           opens-slice ! tt R (zs (i .0)) b o $ elem-out ! R (Is R) (shows 𝓤 H A R) (LL.vals T.the-type T′.the-laws) (LL.tells T.the-type T′.the-laws) fullShare (zs (i .0)) (i .0) noHead b o (within less) (λ _.
@@ -224,13 +225,12 @@ module _ {M : Type 1} (𝓤 : URA M) (H : Heap 𝓤) (A : Atoms 𝓤) (W : Given
           closes-slice ! tt R (zs (i .0)) (set (zs (i .0)) (i .0) r) (length-set (zs (i .0)) (i .0) r) b o $
           fjoin ! $ pureI ! (at-slice R (x (set (zs (i .0)) (i .0) r)) (s ∷ [])) (tt, (tt, tt)) (ap (λ (m : ℕ). sliceVal (b, o) m ∷ []) (sym (kept r)), subst (Room R) (sym (kept r)) room) $ fjoin ! $
           move ! (2 ∷ []) $ drop ! $ rewrite ! 0 (λ (u : List Head). HeadsI u) (ap (λ (u : Head). set (zs (i .0)) (i .0) u) e ∙ stored-next (i .0) ys hs) refl $ move ! (2 ∷ 3 ∷ []) $
-          assigns-last ! (bin ! (load ! (from ! (stop !)) (look ! 14 refl)) (lit ! tt) (record { fits = next-fits (ltb→lt (i .0) n less) n-small })) (from ! (stop !)) (store ! 14 refl (tt, record { fits = next-fits (ltb→lt (i .0) n less) n-small })) $
+          assigns-last ! (bin ! (load ! (from ! (stop !)) (look ! 12 refl)) (lit ! tt) (record { fits = next-fits (ltb→lt (i .0) n less) n-small })) (from ! (stop !)) (store ! 12 refl (tt, record { fits = next-fits (ltb→lt (i .0) n less) n-small })) $
           forget ! 4 refl $ forget ! 6 refl $ forget ! 8 refl $ forget ! 10 refl $
           again ! Nearer At i (i .0 + 1, next-le (ltb→lt (i .0) n less)) (next-less n (i .0) (ltb→lt (i .0) n less))))))))
-          (λ over. jumps ! $ exec ! C Λ En mir′.t-5 (atRet En Post) $
-          assigns ! (of-opd ! (unit-lit !)) (from ! (stop !)) (init ! 24 refl (tt, tt)) $
-          returns ! (look ! 24 refl) $ forget ! 10 refl $ forget ! 14 refl $ forget ! 16 refl $ forget ! 18 refl $ forget ! 20 refl $ forget ! 22 refl $ forget ! 24 refl $
-          move ! (24 ∷ 25 ∷ []) $ free1 ! $ move ! (22 ∷ 23 ∷ []) $ free1 ! $ move ! (20 ∷ 21 ∷ []) $ free1 ! $ move ! (18 ∷ 19 ∷ []) $ free1 ! $ move ! (16 ∷ 17 ∷ []) $ free1 ! $ move ! (14 ∷ 15 ∷ []) $ free1 ! $ move ! (12 ∷ 13 ∷ []) $ free1 ! $ move ! (10 ∷ 11 ∷ []) $ free1 ! $ move ! (8 ∷ 9 ∷ []) $ free1 ! $ move ! (6 ∷ 7 ∷ []) $ free1 ! $ move ! (4 ∷ 5 ∷ []) $ free1 ! $ free0 ! $
+          (λ over. jumps ! $ exec ! C Λ En mir′.t-4 (atRet En Post) $
+          assigns ! (of-opd ! (unit-lit !)) (from ! (stop !)) (init ! 22 refl (tt, tt)) $
+          returns ! (look ! 22 refl) $ leaves ! (keep (keep (keep (keep (empty (empty (empty (full (full (full (full (full (full (full end)))))))))))))) $
           rewrite ! 2 (λ (k : ℕ). HeadsI (zs k)) (le-antisymm (i .1) (nltb→le (i .0) n over)) refl $ by ! exits)
         where
           old : Head
@@ -253,34 +253,33 @@ module _ {M : Type 1} (𝓤 : URA M) (H : Heap 𝓤) (A : Atoms 𝓤) (W : Given
 
   -- the MIR up to the loop
   abbrev to-min : Min 𝓤 H A mem run .Ghost
-  to-min = ((tt, tt, tt, (number, (length hs, tt)), (vint w8 number ∷ [], (vint w64 (length hs) ∷ [], tt))), tt)
+  to-min = ((tt, tt, tt, (number, tt), (vint w8 number ∷ [], tt)), tt)
 
   goes-min : ent 𝓤 (emp 𝓤) (Min 𝓤 H A mem run .pre to-min)
-  goes-min = qed W [] ∵ nothing ! $ owned ! usize (Is usize) (uint-makes 𝓤 H A W w64) (length hs) _ (refl, room .0) $ fjoin ! $ owned ! u8 (Is u8) (uint-makes 𝓤 H A W w8) number _ (refl, byte) $ fjoin ! $ nothing ! $ join ! $ frame ! $ done !
+  goes-min = qed W [] ∵ nothing ! $ owned ! u8 (Is u8) (uint-makes 𝓤 H A W w8) number _ (refl, byte) $ fjoin ! $ nothing ! $ join ! $ frame ! $ done !
 
   walk : (𝓣 : Tables 𝓤 H) → Triple 𝓤 (𝓣 .C #nt2·changed) (Min 𝓤 H A mem run) → Triple 𝓤 (𝓣 .C #nt2·head-at) (Pick 𝓤 H A mem run)
       → ent 𝓤 (onEntry 𝓤 H A store′.signature (κ, (κ′, tt)) (q, (q′, tt)) a vals) (WpFn 𝓤 H (𝓣 .C) (𝓣 .Λ) code.function (vint w8 number ∷ t ∷ s ∷ []) Post)
   walk 𝓣 known-min known-pick =
       qed W ((‵ (flft κ q) ⊛ ‵ (flft κ′ q′) ⊛ ‵ ftrue) ∷ ‵ (owns (u8 ∷ ShrSlice (named 0) κ u16 ∷ MutSlice (named 1) κ′ R ∷ []) a vals) ∷ []) ∵ enter ! (𝓣 .C) (𝓣 .Λ) code.function (vint w8 number ∷ t ∷ s ∷ []) _ $
-      alloc1 ! (λ l₀. alloc1 ! (λ l₁. alloc1 ! (λ l₂. alloc1 ! (λ l₃. alloc1 ! (λ l₄. alloc1 ! (λ l₅. alloc1 ! (λ l₆. alloc1 ! (λ l₇. alloc1 ! (λ l₈. alloc1 ! (λ l₉. alloc1 ! (λ l₁₀. alloc0 ! $ params1 ! $
-      pass1 ! (init ! 18 refl (tt, record { fits = byte })) $ pass1 ! (init ! 16 refl (tt, (tt, (record { fits = room′ .0 }, tt)))) $ pass1 ! (init ! 14 refl (tt, (tt, (record { fits = room .0 }, tt)))) $ pass0 ! $
-      assigns ! (of-opd ! (load ! (from ! (fld ! refl (stop !))) (look-in ! 14 (sub ! 1 refl (whole !))))) (from ! (stop !)) (init ! 8 refl (tt, record { fits = room .0 })) $
+      alloc1 ! (λ l₀. alloc1 ! (λ l₁. alloc1 ! (λ l₂. alloc1 ! (λ l₃. alloc1 ! (λ l₄. alloc1 ! (λ l₅. alloc1 ! (λ l₆. alloc1 ! (λ l₇. alloc1 ! (λ l₈. alloc1 ! (λ l₉. alloc0 ! $ params1 ! $
+      pass1 ! (init ! 16 refl (tt, record { fits = byte })) $ pass1 ! (init ! 14 refl (tt, (tt, (record { fits = room′ .0 }, tt)))) $ pass1 ! (init ! 12 refl (tt, (tt, (record { fits = room .0 }, tt)))) $ pass0 ! $
       use0 W (raw (Min 𝓤 H A mem run .pre to-min)) goes-min $
-      calls-at ! (fmOf 𝓤 H (W .laws) 𝓣) (Min 𝓤 H A mem run) known-min to-min (and-then ! (load ! (from ! (stop !)) (look ! 19 refl)) (and-then ! (load ! (from ! (stop !)) (look ! 9 refl)) (no-more !))) (λ w.
-      use1 W (later (some (λ (r : ℕ). (‵ ftrue ⊛ ‵ (usize .own r (w ∷ []))) ⊛ raw (ensured 𝓤 H A changed′.ended (changed′.clauses 𝓤 H A mem run) tt (number, (length hs, tt)) tt r)))) (id⊢ 𝓤 _) $ await ! tt $ pick ! (λ r.
-      split ! $ move ! (1 ∷ []) $ use1 W (raw (fact 𝓤 (r ≡ changed number (length hs)))) (min-of 𝓤 H A mem run number (length hs) r) $ heard ! (r ≡ changed number (length hs)) (λ e. split ! $ drop ! $
+      calls-at ! (fmOf 𝓤 H (W .laws) 𝓣) (Min 𝓤 H A mem run) known-min to-min (and-then ! (load ! (from ! (stop !)) (look ! 17 refl)) (no-more !)) (λ w.
+      use1 W (later (some (λ (r : ℕ). (‵ ftrue ⊛ ‵ (usize .own r (w ∷ []))) ⊛ raw (ensured 𝓤 H A changed′.ended (changed′.clauses 𝓤 H A mem run) tt (number, tt) tt r)))) (id⊢ 𝓤 _) $ await ! tt $ pick ! (λ r.
+      split ! $ move ! (1 ∷ []) $ use1 W (raw (fact 𝓤 (r ≡ changed number))) (min-of 𝓤 H A mem run number r) $ heard ! (r ≡ changed number) (λ e. split ! $ drop ! $
       peeks ! usize (Is usize) (shows 𝓤 H A usize) r (w ∷ []) (λ is.
-      land ! (from ! (stop !)) (init ! 13 refl (uint-lawful 𝓤 H A W w64 .typed r _ is .0)) $ rewrite ! 13 (λ (u : Val). ‵ (fat fullShare (tyInt w64) l₄ 0 u)) (ap only (is .0)) refl $ drop ! $
-      assigns ! (of-opd ! (lit ! tt)) (from ! (stop !)) (init ! 10 refl (tt, record { fits = lit< tt })) $ forget ! 8 refl $
-      move ! (23 ∷ []) $ fsplit ! $ drop ! $ fsplit ! $ move ! (1 ∷ []) $ fsplit ! $ move ! (25 ∷ []) $ split ! $ move ! (1 ∷ []) $ split ! $ move ! (5 ∷ 2 ∷ 3 ∷ 0 ∷ []) $ move ! (4 ∷ []) $ drop ! $ move ! (4 ∷ []) $ drop ! $
+      land ! (from ! (stop !)) (init ! 11 refl (uint-lawful 𝓤 H A W w64 .typed r _ is .0)) $ rewrite ! 11 (λ (u : Val). ‵ (fat fullShare (tyInt w64) l₄ 0 u)) (ap only (is .0)) refl $ drop ! $
+      assigns ! (of-opd ! (lit ! tt)) (from ! (stop !)) (init ! 8 refl (tt, record { fits = lit< tt })) $
+      move ! (21 ∷ []) $ fsplit ! $ drop ! $ fsplit ! $ move ! (1 ∷ []) $ fsplit ! $ move ! (23 ∷ []) $ split ! $ move ! (1 ∷ []) $ split ! $ move ! (5 ∷ 2 ∷ 3 ∷ 0 ∷ []) $ move ! (4 ∷ []) $ drop ! $ move ! (4 ∷ []) $ drop ! $
       rewrite ! 2 (λ (u : List Head). HeadsI u) (stored-none ys hs) refl $
-      first ! $ blocks ! $ loops ! 𝓣 (Nearer r e) (Nearer-wf r e) (At r e 𝓣 known-pick l₀ l₁ l₂ l₃ l₄ l₅ l₆ l₇ l₈ l₉ l₁₀) (turns r e 𝓣 known-pick l₀ l₁ l₂ l₃ l₄ l₅ l₆ l₇ l₈ l₉ l₁₀) (0, zero-le))))))))))))))))
+      first ! $ blocks ! $ loops ! 𝓣 (Nearer r e) (Nearer-wf r e) (At r e 𝓣 known-pick l₀ l₁ l₂ l₃ l₄ l₅ l₆ l₇ l₈ l₉) (turns r e 𝓣 known-pick l₀ l₁ l₂ l₃ l₄ l₅ l₆ l₇ l₈ l₉) (0, zero-le)))))))))))))))
 
 module _ {M : Type 1} (𝓤 : URA M) (H : Heap 𝓤) (A : Atoms 𝓤) (W : Given 𝓤 H A) (mem : Memory → SProp 𝓤) (run : Routine → Fun 𝓤) where
   store-walks : (𝓣 : Tables 𝓤 H) → Triple 𝓤 (𝓣 .C #nt2·changed) (Min 𝓤 H A mem run) → Triple 𝓤 (𝓣 .C #nt2·head-at) (Pick 𝓤 H A mem run) → Walks 𝓤 H A store′.ended stayed (WpFn 𝓤 H (𝓣 .C) (𝓣 .Λ) code.function) (store′.clauses 𝓤 H A mem run)
   store-walks 𝓣 known-min known-pick = walked 𝓤 H A store′.ended stayed (store′.clauses 𝓤 H A mem run) (WpFn 𝓤 H (𝓣 .C) (𝓣 .Λ) code.function) (λ κs. (uint-vals w8, (slice-vals, (slice-vals, tt)))) (λ κs. (uint-tells w8, (shr-slice-tells (named 0) (κs .0) u16, (mut-slice-tells (named 1) (κs .1 .0) T.the-row, tt))))
-      (λ κs qs bounds a g are. needs 𝓤 (256 ≤ length (a .1 .0 .now)) _ (λ wide.
-      walk 𝓤 H A W mem run (κs .0) (κs .1 .0) (qs .0) (qs .1 .0) (a .0) (a .1 .0 .ptr .0) (a .1 .0 .ptr .1) (a .1 .0 .name) (a .1 .0 .now) (a .1 .1 .0 .ptr .0) (a .1 .1 .0 .ptr .1) (a .1 .1 .0 .name) (a .1 .1 .0 .now) (are .0 .1) (are .1 .0 .0 .1) (are .1 .1 .0 .0 .1) wide 𝓣 known-min known-pick))
+      (λ κs qs bounds a g are. needs 𝓤 ((64 ≤ length (a .1 .1 .0 .now)) × (256 ≤ length (a .1 .0 .now))) _ (λ wide.
+      walk 𝓤 H A W mem run (κs .0) (κs .1 .0) (qs .0) (qs .1 .0) (a .0) (a .1 .0 .ptr .0) (a .1 .0 .ptr .1) (a .1 .0 .name) (a .1 .0 .now) (a .1 .1 .0 .ptr .0) (a .1 .1 .0 .ptr .1) (a .1 .1 .0 .name) (a .1 .1 .0 .now) (are .0 .1) (are .1 .0 .0 .1) (are .1 .1 .0 .0 .1) (wide .0) (wide .1) 𝓣 known-min known-pick))
 
 store-meets : {M : Type 1} (𝓤 : URA M) (H : Heap 𝓤) (A : Atoms 𝓤) → Given 𝓤 H A → (mem : Memory → SProp 𝓤) (run : Routine → Fun 𝓤) (𝓣 : Tables 𝓤 H) → Triple 𝓤 (𝓣 .C #nt2·changed) (Min 𝓤 H A mem run) → Triple 𝓤 (𝓣 .C #nt2·head-at) (Pick 𝓤 H A mem run)
     → Meets 𝓤 H A store′.signature (WpFn 𝓤 H (𝓣 .C) (𝓣 .Λ) code.function) (store′.spec 𝓤 H A mem run)
