@@ -81,24 +81,24 @@ impl Client {
         Err(Failure::EndedEarly)
     }
 
-    /// Writes an entry's value, and answers the number that it has now. A server does not answer an
-    /// update, so the client sends nothing more and reads until the server has closed the stream.
+    /// Sends an update with an entry's next number, and answers that number. A server does not answer
+    /// an update, so the client sends nothing more and reads until the server has closed the stream.
+    /// A server that takes the update applies it if no other one of the entry arrives by then; if
+    /// one does, this is not known.
     pub fn write(mut self, id: u16, value: &[u8]) -> Result<u16, Failure> {
         let entry = self.copy.entry(id).ok_or(Failure::Refused(Refusal::UnknownId))?;
         let (value_type, number) = (entry.value_type, entry.number.wrapping_add(1));
         self.send(&Message::Update { value_type, id, number, value })?;
         self.stream.shutdown(Shutdown::Write).map_err(Failure::Connection)?;
         self.keep_alive = None;
-        // The entry's next update, if one arrives, is another writer's. With this number it was
-        // applied in place of ours, with a later one after it.
-        let mut next = None;
+        let mut other = None;
         let until = answer_time();
         while let Some(updated) = self.next_entry_until(until)? {
-            if updated == id && next.is_none() {
-                next = self.copy.entry(id).map(|entry| entry.number);
+            if updated == id && other.is_none() {
+                other = self.copy.entry(id).map(|entry| entry.number);
             }
         }
-        if next == Some(number) { Err(Failure::Overtaken(number)) } else { Ok(number) }
+        other.map_or(Ok(number), |other| Err(Failure::OtherUpdate(other)))
     }
 
     fn next_entry_until(&mut self, until: Option<Instant>) -> Result<Option<u16>, Failure> {

@@ -11,8 +11,8 @@ pub enum Failure {
     /// What was asked is refused.
     Refused(Refusal),
     NoEntry(String),
-    /// An update of another writer had this number before.
-    Overtaken(u16),
+    /// Another writer's update, with this number, came before or after the one that was sent.
+    OtherUpdate(u16),
     /// A message of the server is refused.
     Received(Refusal),
     /// The server speaks this revision only.
@@ -39,9 +39,11 @@ impl fmt::Display for Failure {
             Failure::Usage(fault) => f.write_str(fault),
             Failure::Refused(refusal) => write!(f, "refused with {}, {refusal}", refusal.number()),
             Failure::NoEntry(name) => write!(f, "no entry is named {name:?}"),
-            Failure::Overtaken(number) => {
-                write!(f, "ignored, another update with number {number} came first")
-            }
+            Failure::OtherUpdate(number) => write!(
+                f,
+                "another update, number {number}, came first or after; \
+                 whether this one was applied is not known"
+            ),
             Failure::Received(refusal) => {
                 write!(f, "the server's message is refused with {}, {refusal}", refusal.number())
             }

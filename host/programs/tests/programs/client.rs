@@ -129,10 +129,11 @@ fn watch_prints_what_arrives() {
 }
 
 /// What a client's command comes to where the server's end sends these bytes and closes.
-fn answered_with(bytes: &'static [u8], words: &[&str]) -> Result<String, Failure> {
-    let (address, server) = one_connection(|mut end: TestClient| {
+fn answered_with(bytes: &[u8], words: &[&str]) -> Result<String, Failure> {
+    let bytes = bytes.to_vec();
+    let (address, server) = one_connection(move |mut end: TestClient| {
         assert_eq!(end.bytes(3), bytes_of(&HELLO));
-        end.send_bytes(bytes);
+        end.send_bytes(&bytes);
         end.finish();
         end.discard();
     });
@@ -146,7 +147,7 @@ const ASSIGNMENT: &[u8] = b"\x10\x00\x01a\x00\x00\x00\xFF\xFF\x00\x03";
 
 #[test]
 fn streams_that_end_early() {
-    let ended = |bytes, words: &[&str]| {
+    let ended = |bytes: &[u8], words: &[&str]| {
         assert!(matches!(answered_with(bytes, words), Err(Failure::EndedEarly)));
     };
     ended(b"", &["list"]);
@@ -160,7 +161,7 @@ fn streams_that_end_early() {
 
 #[test]
 fn wrong_messages_of_a_server() {
-    let failure = |bytes| answered_with(bytes, &["list"]).unwrap_err().to_string();
+    let failure = |bytes: &[u8]| answered_with(bytes, &["list"]).unwrap_err().to_string();
     assert_eq!(failure(b"\x02\x03\x00"), "the server speaks revision 0x0300 only");
     assert_eq!(
         failure(b"\x10\x00\x01a\x00\x00\x01\x00\x01\x00\x03"),
@@ -174,14 +175,32 @@ fn another_client_was_first() {
     let assigned = b"\x03\x10\x00\x01a\x00\x00\x00\x00\x01\x00";
     let created = answered_with(assigned, &["create", "a", "boolean", "true"]);
     assert!(matches!(created, Err(Failure::Refused(Refusal::NameHeld))));
-    // An update with the number that ours has came before it; a later one came after it.
-    let updated = b"\x10\x00\x01a\x00\x00\x00\x00\x01\x00\x03\x11\x00\x00\x00\x02\x01";
-    assert!(matches!(answered_with(updated, &["write", "a", "true"]), Err(Failure::Overtaken(2))));
-    let updated = b"\x10\x00\x01a\x00\x00\x00\x00\x01\x00\x03\x11\x00\x00\x00\x03\x01";
-    assert_eq!(
-        answered_with(updated, &["write", "a", "true"]).unwrap(),
-        "0 \"a\" boolean 2 true\n"
-    );
+}
+
+/// Entries 0 and 1, "a" and "b", Booleans with number 1, and hello complete.
+const TWO_ENTRIES: &[u8] =
+    b"\x10\x00\x01a\x00\x00\x00\x00\x01\x00\x10\x00\x01b\x00\x00\x01\x00\x01\x00\x03";
+
+/// What writing entry 0 comes to where these updates arrive before the stream ends.
+fn written_beside(updates: &[[u8; 6]]) -> Result<String, Failure> {
+    answered_with(&[TWO_ENTRIES, updates.as_flattened()].concat(), &["write", "a", "true"])
+}
+
+#[test]
+fn another_update_leaves_a_write_unknown() {
+    // One with the number that ours has was first. One that is further ahead was first, and ours
+    // ignored, or it came after ours.
+    for number in [2, 3, 7] {
+        let failure = written_beside(&[[0x11, 0, 0, 0, number, 1]]).unwrap_err();
+        assert!(matches!(failure, Failure::OtherUpdate(other) if other == number.into()));
+        assert_eq!(failure.status(), 1);
+    }
+    let failure = written_beside(&[[0x11, 0, 0, 0, 5, 0], [0x11, 0, 0, 0, 6, 1]]).unwrap_err();
+    let said = "another update, number 5, came first or after; \
+                whether this one was applied is not known";
+    assert_eq!(failure.to_string(), said);
+    // An update of another entry does not matter.
+    assert_eq!(written_beside(&[[0x11, 0, 1, 0, 2, 1]]).unwrap(), "0 \"a\" boolean 2 true\n");
 }
 
 #[test]
