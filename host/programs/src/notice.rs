@@ -8,11 +8,28 @@ use std::net::SocketAddr;
 /// An event that a server reports.
 #[derive(Debug)]
 pub enum Notice {
-    Opened { connection: usize, peer: SocketAddr },
-    Refused { connection: usize, refusal: Refusal },
-    Left { connection: usize, reason: Reason },
-    TurnedAway { peer: SocketAddr },
-    NotAccepted { error: io::Error },
+    Opened {
+        connection: usize,
+        peer: SocketAddr,
+    },
+    Refused {
+        connection: usize,
+        refusal: Refusal,
+    },
+    Left {
+        connection: usize,
+        reason: Reason,
+    },
+    TurnedAway {
+        peer: SocketAddr,
+    },
+    NotAccepted {
+        error: io::Error,
+    },
+    /// So many notices were not handed over, since too many waited.
+    Dropped {
+        count: u64,
+    },
 }
 
 /// Why a connection was closed.
@@ -43,6 +60,7 @@ impl fmt::Display for Notice {
                 write!(f, "{peer} turned away: all {CONNECTIONS} connections are open")
             }
             Notice::NotAccepted { error } => write!(f, "a connection was not accepted: {error}"),
+            Notice::Dropped { count } => write!(f, "notices dropped: {count}"),
         }
     }
 }

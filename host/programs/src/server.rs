@@ -1,12 +1,15 @@
 //! The server: one thread owns the table and makes every call, so no two calls run at a time and
 //! the bytes for a client go out in the order of the calls. Each connection has a reader, which
-//! feeds the owner, and a writer with bytes of its own that wait.
+//! feeds the owner, and a writer with bytes of its own that wait. Notices have a thread too.
 
 mod link;
+mod notices;
 mod owner;
 
 use crate::notice::Notice;
 pub use link::MOST_WAITING;
+pub use notices::MOST_NOTICES;
+use notices::Notices;
 use owner::{Event, Owner};
 use std::io;
 use std::net::{SocketAddr, TcpListener, TcpStream, ToSocketAddrs};
@@ -29,7 +32,8 @@ pub struct Server {
 }
 
 impl Server {
-    /// Listens at an address and serves a fresh table. Each notice is handed over as it comes.
+    /// Listens at an address and serves a fresh table. Each notice is handed over as it comes; if
+    /// that takes long, some are dropped.
     pub fn start(
         address: impl ToSocketAddrs,
         notify: impl FnMut(&Notice) + Send + 'static,
@@ -37,7 +41,7 @@ impl Server {
         let listener = TcpListener::bind(address)?;
         let address = listener.local_addr()?;
         let (events, received) = sync_channel(WAITING_EVENTS);
-        let owner = Owner::new(events.clone(), notify);
+        let owner = Owner::new(events.clone(), Notices::start(notify)?);
         let owner = spawn("table", move || owner.run(&received))?;
         let accepted = events.clone();
         let acceptor = spawn("accept", move || accept(&listener, &accepted))?;

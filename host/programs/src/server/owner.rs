@@ -1,6 +1,7 @@
 //! The owner of the table.
 
 use super::link::Link;
+use super::notices::Notices;
 use super::spawn;
 use crate::notice::{Notice, Reason};
 use nt2::{CONNECTIONS, LONGEST_HELLO_ANSWER, Received, Recipients, Refusal, ServerTable, State};
@@ -33,25 +34,25 @@ struct Client {
     held: Vec<u8>,
 }
 
-pub struct Owner<N> {
+pub struct Owner {
     table: ServerTable,
     clients: [Option<Client>; CONNECTIONS],
     accepted: u64,
     output: Vec<u8>,
     events: SyncSender<Event>,
-    notify: N,
+    notices: Notices,
 }
 
-impl<N: FnMut(&Notice)> Owner<N> {
+impl Owner {
     /// A fresh table. Readers are given the sender of events.
-    pub fn new(events: SyncSender<Event>, notify: N) -> Self {
+    pub fn new(events: SyncSender<Event>, notices: Notices) -> Self {
         Owner {
             table: ServerTable::new(),
             clients: [const { None }; CONNECTIONS],
             accepted: 0,
             output: vec![0; LONGEST_HELLO_ANSWER],
             events,
-            notify,
+            notices,
         }
     }
 
@@ -60,7 +61,7 @@ impl<N: FnMut(&Notice)> Owner<N> {
         for event in events {
             match event {
                 Event::Accepted(Ok((stream, peer))) => self.accept(stream, peer),
-                Event::Accepted(Err(error)) => (self.notify)(&Notice::NotAccepted { error }),
+                Event::Accepted(Err(error)) => self.notices.add(Notice::NotAccepted { error }),
                 Event::Arrived { client, bytes } => self.receive(client, &bytes),
                 Event::Ended { client, result } => self.ended(client, result),
                 Event::Stop => break,
@@ -73,16 +74,16 @@ impl<N: FnMut(&Notice)> Owner<N> {
     fn accept(&mut self, stream: TcpStream, peer: SocketAddr) {
         let closed = |&connection: &usize| self.table.state(connection) == Some(State::Closed);
         let Some(connection) = (0..CONNECTIONS).find(closed) else {
-            return (self.notify)(&Notice::TurnedAway { peer });
+            return self.notices.add(Notice::TurnedAway { peer });
         };
         let key = ClientKey { connection, accepted_before: self.accepted };
         let link = match self.start(stream, key) {
             Ok(link) => link,
-            Err(error) => return (self.notify)(&Notice::NotAccepted { error }),
+            Err(error) => return self.notices.add(Notice::NotAccepted { error }),
         };
         self.accepted += 1;
         self.clients[connection] = Some(Client { key, link, held: Vec::new() });
-        (self.notify)(&Notice::Opened { connection, peer });
+        self.notices.add(Notice::Opened { connection, peer });
         if let Err(refusal) = self.table.open(connection) {
             self.refuse(connection, refusal);
         }
@@ -156,7 +157,7 @@ impl<N: FnMut(&Notice)> Owner<N> {
     }
 
     fn refuse(&mut self, connection: usize, refusal: Refusal) {
-        (self.notify)(&Notice::Refused { connection, refusal });
+        self.notices.add(Notice::Refused { connection, refusal });
         self.close(connection, Reason::Refused);
     }
 
@@ -180,8 +181,8 @@ impl<N: FnMut(&Notice)> Owner<N> {
         if self.table.state(connection) != Some(State::Closed)
             && let Err(refusal) = self.table.leave(connection)
         {
-            (self.notify)(&Notice::Refused { connection, refusal });
+            self.notices.add(Notice::Refused { connection, refusal });
         }
-        (self.notify)(&Notice::Left { connection, reason });
+        self.notices.add(Notice::Left { connection, reason });
     }
 }

@@ -2,8 +2,9 @@
 
 use crate::support::{HELLO, TestClient, TestServer, assert_same, bytes_of, new_entry};
 use nt2::{CONNECTIONS, Copied, LONGEST_UPDATE, Message, Type};
-use nt2_programs::server::MOST_WAITING;
+use nt2_programs::server::{MOST_NOTICES, MOST_WAITING};
 use std::net::SocketAddr;
+use std::sync::mpsc::channel;
 use std::thread;
 
 const KEEP_ALIVE: u8 = 0x00;
@@ -207,6 +208,32 @@ fn client_that_does_not_read_is_dropped() {
     }
     assert!(rounds * usize::from(ROUND) * LONGEST_UPDATE > MOST_WAITING);
     assert_same(&server.greeted().copy, &reader.copy);
+}
+
+#[test]
+fn notices_that_are_not_taken_stop_no_call() {
+    // No notice is taken before the sender is dropped.
+    let (not_taking, blocked) = channel::<()>();
+    let server = TestServer::start_with(move || assert!(blocked.recv().is_err()));
+    for _ in 0..MOST_NOTICES {
+        let mut client = server.greeted();
+        client.finish();
+        client.expect_end();
+    }
+    let mut last = server.greeted();
+    assert_eq!(last.create("tare", Type::Boolean, &[1]), 0);
+    drop(not_taking);
+    let mut taken = 0;
+    let dropped = loop {
+        let notice = server.next_notice();
+        match notice.strip_prefix("notices dropped: ") {
+            Some(count) => break count.parse::<usize>().unwrap(),
+            None => taken += 1,
+        }
+    };
+    // Each client was opened, and all but the last one have left.
+    assert_eq!(taken + dropped, 2 * MOST_NOTICES + 1);
+    server.connected(1);
 }
 
 #[test]

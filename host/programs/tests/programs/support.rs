@@ -26,8 +26,14 @@ pub struct TestServer {
 
 impl TestServer {
     pub fn start() -> Self {
+        TestServer::start_with(|| {})
+    }
+
+    /// What is to be done first is done before each notice is taken.
+    pub fn start_with(mut first: impl FnMut() + Send + 'static) -> Self {
         let (notify, notices) = channel();
         let server = Server::start(ANY_PORT, move |notice| {
+            first();
             // A test that has ended needs no notices.
             let _ = notify.send(notice.to_string());
         });
