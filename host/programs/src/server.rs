@@ -10,6 +10,7 @@ use crate::notice::Notice;
 pub use link::MOST_WAITING;
 pub use notices::MOST_NOTICES;
 use notices::Notices;
+pub use owner::MOST_LINGERING;
 use owner::{Event, Owner};
 use std::io;
 use std::net::{SocketAddr, TcpListener, TcpStream, ToSocketAddrs};
@@ -22,6 +23,22 @@ use std::time::Duration;
 const WAITING_EVENTS: usize = 0;
 /// The pause after a connection that could not be accepted, for instance for want of memory.
 const ACCEPT_PAUSE: Duration = Duration::from_millis(100);
+
+/// What a server's times are if nothing else is said.
+const LINGER: Duration = Duration::from_secs(2);
+
+/// The times of a server.
+#[derive(Clone, Copy, Debug)]
+pub struct Settings {
+    /// A client has this long to take what was sent to it before its connection was closed.
+    pub linger: Duration,
+}
+
+impl Default for Settings {
+    fn default() -> Self {
+        Settings { linger: LINGER }
+    }
+}
 
 /// A server at work.
 pub struct Server {
@@ -36,12 +53,13 @@ impl Server {
     /// that takes long, some are dropped.
     pub fn start(
         address: impl ToSocketAddrs,
+        settings: Settings,
         notify: impl FnMut(&Notice) + Send + 'static,
     ) -> io::Result<Self> {
         let listener = TcpListener::bind(address)?;
         let address = listener.local_addr()?;
         let (events, received) = sync_channel(WAITING_EVENTS);
-        let owner = Owner::new(events.clone(), Notices::start(notify)?);
+        let owner = Owner::new(events.clone(), settings, Notices::start(notify)?);
         let owner = spawn("table", move || owner.run(&received))?;
         let accepted = events.clone();
         let acceptor = spawn("accept", move || accept(&listener, &accepted))?;

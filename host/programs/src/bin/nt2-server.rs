@@ -4,7 +4,7 @@
 
 #![forbid(unsafe_code)]
 
-use nt2_programs::server::Server;
+use nt2_programs::server::{Server, Settings};
 use nt2_programs::{DEFAULT_ADDRESS, arguments, say};
 use std::io::{self, Write};
 use std::process::ExitCode;
@@ -13,7 +13,7 @@ const USAGE: &str = "usage: nt2-server [ADDRESS]";
 const USAGE_STATUS: u8 = 2;
 
 fn serve(address: &str) -> io::Result<bool> {
-    let server = Server::start(address, |notice| say(notice))?;
+    let server = Server::start(address, Settings::default(), |notice| say(notice))?;
     writeln!(io::stdout(), "listening at {}", server.address())?;
     Ok(server.wait())
 }

@@ -10,8 +10,6 @@ use std::time::{Duration, Instant};
 /// At most so many bytes wait for a client, beside those that its writer is sending.
 pub const MOST_WAITING: usize = 256 * 1024;
 
-/// A client has this long to take what was sent to it before its connection was closed.
-const LINGER: Duration = Duration::from_secs(2);
 /// A write that cannot go on is tried again so often, to see whether its time is over.
 const WRITE_TRY: Duration = Duration::from_millis(250);
 
@@ -19,6 +17,8 @@ const WRITE_TRY: Duration = Duration::from_millis(250);
 /// either.
 pub struct Link {
     stream: TcpStream,
+    /// How long a closed connection's stream stays at most.
+    linger: Duration,
     state: Mutex<State>,
     changed: Condvar,
 }
@@ -31,11 +31,11 @@ struct State {
 }
 
 impl Link {
-    pub fn new(stream: TcpStream) -> io::Result<Self> {
+    pub fn new(stream: TcpStream, linger: Duration) -> io::Result<Self> {
         stream.set_nodelay(true)?;
         stream.set_write_timeout(Some(WRITE_TRY))?;
         let state = State { waiting: Vec::new(), reading: true, deadline: None };
-        Ok(Link { stream, state: Mutex::new(state), changed: Condvar::new() })
+        Ok(Link { stream, linger, state: Mutex::new(state), changed: Condvar::new() })
     }
 
     /// Lets bytes wait behind the earlier ones; false where they would be too many.
@@ -52,7 +52,7 @@ impl Link {
 
     /// Nothing more is to be sent: what waits goes out, and the stream is closed.
     pub fn finish(&self) {
-        self.lock().deadline = Some(Instant::now() + LINGER);
+        self.lock().deadline = Some(Instant::now() + self.linger);
         self.changed.notify_all();
     }
 
@@ -120,7 +120,7 @@ impl Link {
     }
 
     fn wait_for_reader(&self) {
-        let time = self.time_left().unwrap_or(LINGER);
+        let time = self.time_left().unwrap_or(self.linger);
         drop(self.changed.wait_timeout_while(self.lock(), time, |state| state.reading));
     }
 

@@ -2,14 +2,18 @@
 
 use super::link::Link;
 use super::notices::Notices;
-use super::spawn;
+use super::{Settings, spawn};
 use crate::notice::{Notice, Reason};
 use nt2::{CONNECTIONS, LONGEST_HELLO_ANSWER, Received, Recipients, Refusal, ServerTable, State};
+use std::collections::VecDeque;
 use std::io;
 use std::mem;
 use std::net::{SocketAddr, TcpStream};
-use std::sync::Arc;
 use std::sync::mpsc::{Receiver, SyncSender};
+use std::sync::{Arc, Weak};
+
+/// At most so many closed connections still send what waits or read what is dropped.
+pub const MOST_LINGERING: usize = 16;
 
 /// What the owner is told.
 pub enum Event {
@@ -37,21 +41,26 @@ struct Client {
 pub struct Owner {
     table: ServerTable,
     clients: [Option<Client>; CONNECTIONS],
+    /// Closed connections whose reader or writer may still be at work, the oldest first.
+    lingering: VecDeque<Weak<Link>>,
     accepted: u64,
     output: Vec<u8>,
     events: SyncSender<Event>,
+    settings: Settings,
     notices: Notices,
 }
 
 impl Owner {
     /// A fresh table. Readers are given the sender of events.
-    pub fn new(events: SyncSender<Event>, notices: Notices) -> Self {
+    pub fn new(events: SyncSender<Event>, settings: Settings, notices: Notices) -> Self {
         Owner {
             table: ServerTable::new(),
             clients: [const { None }; CONNECTIONS],
+            lingering: VecDeque::new(),
             accepted: 0,
             output: vec![0; LONGEST_HELLO_ANSWER],
             events,
+            settings,
             notices,
         }
     }
@@ -91,7 +100,7 @@ impl Owner {
 
     /// Starts a stream's reader and writer.
     fn start(&self, stream: TcpStream, key: ClientKey) -> io::Result<Arc<Link>> {
-        let link = Arc::new(Link::new(stream)?);
+        let link = Arc::new(Link::new(stream, self.settings.linger)?);
         let writer = Arc::clone(&link);
         spawn("writer", move || writer.write())?;
         let (reader, events) = (Arc::clone(&link), self.events.clone());
@@ -176,7 +185,7 @@ impl Owner {
         };
         match reason {
             Reason::NotReading => client.link.abandon(),
-            _ => client.link.finish(),
+            _ => self.linger(&client.link),
         }
         if self.table.state(connection) != Some(State::Closed)
             && let Err(refusal) = self.table.leave(connection)
@@ -184,5 +193,17 @@ impl Owner {
             self.notices.add(Notice::Refused { connection, refusal });
         }
         self.notices.add(Notice::Left { connection, reason });
+    }
+
+    /// Lets a closed connection send what waits. Where too many do, the oldest is abandoned.
+    fn linger(&mut self, link: &Arc<Link>) {
+        link.finish();
+        self.lingering.retain(|link| link.strong_count() > 0);
+        self.lingering.push_back(Arc::downgrade(link));
+        if self.lingering.len() > MOST_LINGERING
+            && let Some(oldest) = self.lingering.pop_front().and_then(|link| link.upgrade())
+        {
+            oldest.abandon();
+        }
     }
 }

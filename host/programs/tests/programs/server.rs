@@ -1,13 +1,14 @@
 //! The server, from the other end of its streams.
 
-use crate::support::{HELLO, TestClient, TestServer, assert_same, bytes_of, new_entry};
+use crate::support::{HELLO, PATIENCE, TestClient, TestServer, assert_same, bytes_of, new_entry};
 use nt2::{CONNECTIONS, Copied, LONGEST_UPDATE, Message, Type};
-use nt2_programs::server::{MOST_NOTICES, MOST_WAITING};
+use nt2_programs::server::{MOST_LINGERING, MOST_NOTICES, MOST_WAITING, Settings};
 use std::net::SocketAddr;
 use std::sync::mpsc::channel;
 use std::thread;
 
 const KEEP_ALIVE: u8 = 0x00;
+const UNKNOWN_KIND: u8 = 0x04;
 const PARENTS: &[u8] = b"\x02\x00\x05lot/1\x00\x05lot/2";
 
 fn boolean_update(id: u16, number: u16, value: &[u8]) -> Message<'_> {
@@ -214,7 +215,9 @@ fn client_that_does_not_read_is_dropped() {
 fn notices_that_are_not_taken_stop_no_call() {
     // No notice is taken before the sender is dropped.
     let (not_taking, blocked) = channel::<()>();
-    let server = TestServer::start_with(move || assert!(blocked.recv().is_err()));
+    let server = TestServer::start_with(Settings::default(), move || {
+        assert!(blocked.recv().is_err());
+    });
     for _ in 0..MOST_NOTICES {
         let mut client = server.greeted();
         client.finish();
@@ -234,6 +237,26 @@ fn notices_that_are_not_taken_stop_no_call() {
     // Each client was opened, and all but the last one have left.
     assert_eq!(taken + dropped, 2 * MOST_NOTICES + 1);
     server.connected(1);
+}
+
+#[test]
+fn closed_connections_that_linger_are_bounded() {
+    // Without the bound none of them would end in the test's time.
+    let settings = Settings { linger: 10 * PATIENCE, ..Settings::default() };
+    let server = TestServer::start_with(settings, || {});
+    let closed_by_server = || {
+        let mut client = server.connected(0);
+        client.send_bytes(&[UNKNOWN_KIND]);
+        client.expect_end();
+        client
+    };
+    let mut clients: Vec<_> = (0..=MOST_LINGERING).map(|_| closed_by_server()).collect();
+    clients[0].send_until_closed();
+    clients[1..].iter_mut().for_each(|client| client.send_bytes(&[KEEP_ALIVE]));
+    clients.push(closed_by_server());
+    clients[1].send_until_closed();
+    clients[2..].iter_mut().for_each(|client| client.send_bytes(&[KEEP_ALIVE]));
+    server.connected(0).greet();
 }
 
 #[test]

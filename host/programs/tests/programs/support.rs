@@ -3,12 +3,12 @@
 use nt2::{Copied, CopyTable, LONGEST_ASSIGNMENT, Message, Refusal, Type, encode};
 use nt2_programs::command;
 use nt2_programs::failure::Failure;
-use nt2_programs::server::Server;
+use nt2_programs::server::{Server, Settings};
 use std::io::{ErrorKind, Read, Write};
 use std::net::{SocketAddr, TcpListener, TcpStream};
 use std::sync::mpsc::{Receiver, channel};
 use std::thread::{self, JoinHandle};
-use std::time::Duration;
+use std::time::{Duration, Instant};
 
 /// What is expected comes long before; a test that waits longer fails.
 pub const PATIENCE: Duration = Duration::from_secs(30);
@@ -26,13 +26,13 @@ pub struct TestServer {
 
 impl TestServer {
     pub fn start() -> Self {
-        TestServer::start_with(|| {})
+        TestServer::start_with(Settings::default(), || {})
     }
 
     /// What is to be done first is done before each notice is taken.
-    pub fn start_with(mut first: impl FnMut() + Send + 'static) -> Self {
+    pub fn start_with(settings: Settings, mut first: impl FnMut() + Send + 'static) -> Self {
         let (notify, notices) = channel();
-        let server = Server::start(ANY_PORT, move |notice| {
+        let server = Server::start(ANY_PORT, settings, move |notice| {
             first();
             // A test that has ended needs no notices.
             let _ = notify.send(notice.to_string());
@@ -179,6 +179,15 @@ impl TestClient {
     /// Nothing more is sent.
     pub fn finish(&mut self) {
         self.stream.shutdown(std::net::Shutdown::Write).unwrap();
+    }
+
+    /// Sends bytes that are not looked at until the other end has closed the stream.
+    pub fn send_until_closed(&mut self) {
+        let start = Instant::now();
+        while self.stream.write_all(&[0]).is_ok() {
+            assert!(start.elapsed() < PATIENCE, "the stream is not closed");
+            thread::sleep(Duration::from_millis(1));
+        }
     }
 
     /// Reads until the stream ends, and looks at nothing.
