@@ -36,6 +36,8 @@ pub enum Notice {
 #[derive(Debug)]
 pub enum Reason {
     EndOfStream,
+    /// No byte has arrived for too long.
+    Idle,
     Refused,
     OtherRevision,
     /// More bytes wait for the client than the bound.
@@ -69,6 +71,7 @@ impl fmt::Display for Reason {
     fn fmt(&self, f: &mut fmt::Formatter<'_>) -> fmt::Result {
         match self {
             Reason::EndOfStream => f.write_str("end of the stream"),
+            Reason::Idle => f.write_str("nothing has arrived for too long"),
             Reason::Refused => f.write_str("a message was refused"),
             Reason::OtherRevision => f.write_str("hello for another revision"),
             Reason::NotReading => f.write_str("the client does not read what is sent to it"),

@@ -26,17 +26,21 @@ const ACCEPT_PAUSE: Duration = Duration::from_millis(100);
 
 /// What a server's times are if nothing else is said.
 const LINGER: Duration = Duration::from_secs(2);
+const IDLE_LIMIT: Duration = Duration::from_secs(30);
 
 /// The times of a server.
 #[derive(Clone, Copy, Debug)]
 pub struct Settings {
     /// A client has this long to take what was sent to it before its connection was closed.
     pub linger: Duration,
+    /// A connection is closed if no byte has arrived for so long, which is not 0. Clients send a
+    /// keep alive after each second in which they sent nothing.
+    pub idle_limit: Duration,
 }
 
 impl Default for Settings {
     fn default() -> Self {
-        Settings { linger: LINGER }
+        Settings { linger: LINGER, idle_limit: IDLE_LIMIT }
     }
 }
 

@@ -1,6 +1,8 @@
 //! One client's stream, with the bytes that wait to be sent.
 
+use super::Settings;
 use crate::READ_SIZE;
+use crate::notice::Reason;
 use std::io::{self, ErrorKind, Read, Write};
 use std::mem;
 use std::net::{Shutdown, TcpStream};
@@ -31,8 +33,10 @@ struct State {
 }
 
 impl Link {
-    pub fn new(stream: TcpStream, linger: Duration) -> io::Result<Self> {
+    pub fn new(stream: TcpStream, settings: Settings) -> io::Result<Self> {
+        let Settings { linger, idle_limit } = settings;
         stream.set_nodelay(true)?;
+        stream.set_read_timeout(Some(idle_limit))?;
         stream.set_write_timeout(Some(WRITE_TRY))?;
         let state = State { waiting: Vec::new(), reading: true, deadline: None };
         Ok(Link { stream, linger, state: Mutex::new(state), changed: Condvar::new() })
@@ -65,15 +69,19 @@ impl Link {
         self.shut(Shutdown::Both);
     }
 
-    /// The reader: hands over what arrives until the stream ends, or until it is not wanted.
-    pub fn read(&self, mut hand_over: impl FnMut(&[u8]) -> bool) -> io::Result<()> {
+    /// The reader: hands over what arrives until the stream ends, nothing has arrived for too long
+    /// or it is not wanted.
+    pub fn read(&self, mut hand_over: impl FnMut(&[u8]) -> bool) -> Reason {
         let mut buffer = [0; READ_SIZE];
         let ended = loop {
             match (&self.stream).read(&mut buffer) {
                 Ok(length) if length > 0 && hand_over(&buffer[..length]) => {}
-                Ok(_) => break Ok(()),
-                Err(error) if error.kind() == ErrorKind::Interrupted => {}
-                Err(error) => break Err(error),
+                Ok(_) => break Reason::EndOfStream,
+                Err(error) => match error.kind() {
+                    ErrorKind::Interrupted => {}
+                    ErrorKind::WouldBlock | ErrorKind::TimedOut => break Reason::Idle,
+                    _ => break Reason::Failed(error),
+                },
             }
         };
         self.lock().reading = false;

@@ -19,7 +19,7 @@ pub const MOST_LINGERING: usize = 16;
 pub enum Event {
     Accepted(io::Result<(TcpStream, SocketAddr)>),
     Arrived { client: ClientKey, bytes: Vec<u8> },
-    Ended { client: ClientKey, result: io::Result<()> },
+    Ended { client: ClientKey, reason: Reason },
     Stop,
 }
 
@@ -72,7 +72,7 @@ impl Owner {
                 Event::Accepted(Ok((stream, peer))) => self.accept(stream, peer),
                 Event::Accepted(Err(error)) => self.notices.add(Notice::NotAccepted { error }),
                 Event::Arrived { client, bytes } => self.receive(client, &bytes),
-                Event::Ended { client, result } => self.ended(client, result),
+                Event::Ended { client, reason } => self.ended(client, reason),
                 Event::Stop => break,
             }
         }
@@ -100,15 +100,15 @@ impl Owner {
 
     /// Starts a stream's reader and writer.
     fn start(&self, stream: TcpStream, key: ClientKey) -> io::Result<Arc<Link>> {
-        let link = Arc::new(Link::new(stream, self.settings.linger)?);
+        let link = Arc::new(Link::new(stream, self.settings)?);
         let writer = Arc::clone(&link);
         spawn("writer", move || writer.write())?;
         let (reader, events) = (Arc::clone(&link), self.events.clone());
         let read = move || {
             let arrived = |bytes: &[u8]| Event::Arrived { client: key, bytes: bytes.to_vec() };
-            let result = reader.read(|bytes| events.send(arrived(bytes)).is_ok());
+            let reason = reader.read(|bytes| events.send(arrived(bytes)).is_ok());
             // Without an owner there is nobody to tell.
-            let _ = events.send(Event::Ended { client: key, result });
+            let _ = events.send(Event::Ended { client: key, reason });
         };
         spawn("reader", read).inspect_err(|_| link.abandon())?;
         Ok(link)
@@ -170,9 +170,8 @@ impl Owner {
         self.close(connection, Reason::Refused);
     }
 
-    fn ended(&mut self, key: ClientKey, result: io::Result<()>) {
+    fn ended(&mut self, key: ClientKey, reason: Reason) {
         if self.client(key).is_some() {
-            let reason = result.map_or_else(Reason::Failed, |()| Reason::EndOfStream);
             self.close(key.connection, reason);
         }
     }

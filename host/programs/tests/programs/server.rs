@@ -6,6 +6,7 @@ use nt2_programs::server::{MOST_LINGERING, MOST_NOTICES, MOST_WAITING, Settings}
 use std::net::SocketAddr;
 use std::sync::mpsc::channel;
 use std::thread;
+use std::time::Duration;
 
 const KEEP_ALIVE: u8 = 0x00;
 const UNKNOWN_KIND: u8 = 0x04;
@@ -168,6 +169,26 @@ fn silent_client_holds_nobody_up() {
     stops_halfway.send_bytes(rest);
     stops_halfway.expect(1, 1);
     client.expect(1, 1);
+}
+
+#[test]
+fn idle_connection_is_closed() {
+    let idle_limit = Duration::from_secs(1);
+    let settings = Settings { idle_limit, ..Settings::default() };
+    let server = TestServer::start_with(settings, || {});
+    let (mut without_hello, mut greeted) = (server.connected(0), server.connected(1));
+    let mut sends_keep_alive = server.connected(2);
+    greeted.greet();
+    let mut closed = 0;
+    while closed < 2 {
+        sends_keep_alive.send_bytes(&[KEEP_ALIVE]);
+        let text = "left, nothing has arrived for too long";
+        closed += usize::from(server.says_within(idle_limit / 10, text));
+    }
+    without_hello.expect_end();
+    greeted.expect_end();
+    sends_keep_alive.greet();
+    let _numbers_are_free = (server.connected(0), server.connected(1));
 }
 
 #[test]

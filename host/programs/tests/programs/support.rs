@@ -67,6 +67,11 @@ impl TestServer {
         self.notices.recv_timeout(PATIENCE).unwrap()
     }
 
+    /// Whether a notice comes within a time, and has this text.
+    pub fn says_within(&self, time: Duration, text: &str) -> bool {
+        self.notices.recv_timeout(time).is_ok_and(|notice| notice.contains(text))
+    }
+
     /// Whether a notice that has come has this text.
     pub fn has_said(&self, text: &str) -> bool {
         self.notices.try_iter().any(|notice| notice.contains(text))
