@@ -42,6 +42,8 @@ pub enum Reason {
     OtherRevision,
     /// More bytes wait for the client than the bound.
     NotReading,
+    /// Bytes could not be sent.
+    NotSent(io::Error),
     Failed(io::Error),
     Stopped,
 }
@@ -75,6 +77,7 @@ impl fmt::Display for Reason {
             Reason::Refused => f.write_str("a message was refused"),
             Reason::OtherRevision => f.write_str("hello for another revision"),
             Reason::NotReading => f.write_str("the client does not read what is sent to it"),
+            Reason::NotSent(error) => write!(f, "sending failed: {error}"),
             Reason::Failed(error) => write!(f, "{error}"),
             Reason::Stopped => f.write_str("the server stops"),
         }

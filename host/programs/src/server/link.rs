@@ -28,6 +28,8 @@ pub struct Link {
 struct State {
     waiting: Vec<u8>,
     reading: bool,
+    /// Why sending failed, if it did. The stream is closed then, and its reader reports this.
+    send_error: Option<io::Error>,
     /// Set once nothing more is to be sent: the stream is closed then at the latest.
     deadline: Option<Instant>,
 }
@@ -38,7 +40,8 @@ impl Link {
         stream.set_nodelay(true)?;
         stream.set_read_timeout(Some(idle_limit))?;
         stream.set_write_timeout(Some(WRITE_TRY))?;
-        let state = State { waiting: Vec::new(), reading: true, deadline: None };
+        let (waiting, send_error) = (Vec::new(), None);
+        let state = State { waiting, reading: true, send_error, deadline: None };
         Ok(Link { stream, linger, state: Mutex::new(state), changed: Condvar::new() })
     }
 
@@ -84,16 +87,18 @@ impl Link {
                 },
             }
         };
-        self.lock().reading = false;
+        let mut state = self.lock();
+        state.reading = false;
         self.changed.notify_all();
-        ended
+        state.send_error.take().map_or(ended, Reason::NotSent)
     }
 
     /// The writer: sends what waits until nothing more is to be sent. The client may then still be
     /// writing; its bytes are read for a while, since closing before would lose what was sent.
     pub fn write(&self) {
         while let Some(batch) = self.next_batch() {
-            if self.send(&batch).is_err() {
+            if let Err(error) = self.send(&batch) {
+                self.lock().send_error = Some(error);
                 return self.shut(Shutdown::Both);
             }
         }
@@ -145,5 +150,26 @@ impl Link {
     /// No part of the state is left half changed, so a panic elsewhere does not matter.
     fn lock(&self) -> MutexGuard<'_, State> {
         self.state.lock().unwrap_or_else(PoisonError::into_inner)
+    }
+}
+
+#[cfg(test)]
+mod tests {
+    use super::*;
+    use std::net::TcpListener;
+    use std::thread;
+
+    #[test]
+    fn reader_reports_that_sending_failed() {
+        let listener = TcpListener::bind("127.0.0.1:0").unwrap();
+        let _client = TcpStream::connect(listener.local_addr().unwrap()).unwrap();
+        let link = Link::new(listener.accept().unwrap().0, Settings::default()).unwrap();
+        link.shut(Shutdown::Write);
+        assert!(link.push(&[0]));
+        let reason = thread::scope(|scope| {
+            scope.spawn(|| link.write());
+            link.read(|_| true)
+        });
+        assert!(matches!(reason, Reason::NotSent(_)));
     }
 }
