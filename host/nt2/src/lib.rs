@@ -1,8 +1,9 @@
 //! A shared table server, NetworkTables revision 2.0, over libnt2.a.
 //!
 //! [`ServerTable`] is the server half and [`CopyTable`] the client's copy; both own their memory.
-//! [`encode`] and [`decode`] write and read single messages. Names and values are encoded bytes:
-//! a String's length, an array's count and the elements' lengths are part of a value.
+//! [`encode`] and [`decode`] write and read single messages. A name is given as its bytes alone, a
+//! value as it is encoded: a String's length, an array's count and the elements' lengths are part of
+//! it.
 //!
 //! ```
 //! use nt2::{LONGEST_HELLO_ANSWER, Received, ServerTable, Type};

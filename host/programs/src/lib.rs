@@ -29,7 +29,7 @@ pub fn arguments() -> Result<Vec<String>, String> {
     env::args_os().skip(1).map(text).collect()
 }
 
-/// Writes a line to standard error, in one piece. If that is closed, nobody wants it.
+/// Writes a line to standard error, in one piece. If that is closed, the line is dropped.
 pub fn say(line: impl Display) {
     let _ = io::stderr().write_all(format!("{line}\n").as_bytes());
 }

@@ -20,7 +20,7 @@ pub enum Notice {
         connection: usize,
         reason: Reason,
     },
-    TurnedAway {
+    NoConnectionLeft {
         peer: SocketAddr,
     },
     NotAccepted {
@@ -60,8 +60,8 @@ impl fmt::Display for Notice {
             Notice::Left { connection, reason } => {
                 write!(f, "connection {connection}: left, {reason}")
             }
-            Notice::TurnedAway { peer } => {
-                write!(f, "{peer} turned away: all {CONNECTIONS} connections are open")
+            Notice::NoConnectionLeft { peer } => {
+                write!(f, "{peer}: closed, all {CONNECTIONS} connections are open")
             }
             Notice::NotAccepted { error } => write!(f, "a connection was not accepted: {error}"),
             Notice::Dropped { count } => write!(f, "notices dropped: {count}"),

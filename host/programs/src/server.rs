@@ -82,7 +82,7 @@ impl Server {
 
     /// Closes all connections and listens no more; false if a fault came before.
     pub fn stop(self) -> bool {
-        // Without an owner there is nobody to tell.
+        // Without an owner the event is not needed.
         let _ = self.events.send(Event::Stop);
         let stopped = self.owner.join().is_ok();
         // The acceptor ends with the first connection that it cannot hand over.

@@ -83,7 +83,7 @@ impl Owner {
     fn accept(&mut self, stream: TcpStream, peer: SocketAddr) {
         let closed = |&connection: &usize| self.table.state(connection) == Some(State::Closed);
         let Some(connection) = (0..CONNECTIONS).find(closed) else {
-            return self.notices.add(Notice::TurnedAway { peer });
+            return self.notices.add(Notice::NoConnectionLeft { peer });
         };
         let key = ClientKey { connection, accepted_before: self.accepted };
         let link = match self.start(stream, key) {
@@ -107,7 +107,7 @@ impl Owner {
         let read = move || {
             let arrived = |bytes: &[u8]| Event::Arrived { client: key, bytes: bytes.to_vec() };
             let reason = reader.read(|bytes| events.send(arrived(bytes)).is_ok());
-            // Without an owner there is nobody to tell.
+            // Without an owner the event is not needed.
             let _ = events.send(Event::Ended { client: key, reason });
         };
         spawn("reader", read).inspect_err(|_| link.abandon())?;

@@ -1,7 +1,7 @@
 //! The client program's commands, with the server and with ends that answer wrongly.
 
 use crate::support::{
-    ANY_PORT, HELLO, PATIENCE, TestClient, TestServer, bytes_of, one_connection, run_at,
+    ANY_PORT, HELLO, TIMEOUT, TestClient, TestServer, bytes_of, one_connection, run_at,
 };
 use nt2::{ENTRIES, Message, Refusal, Type};
 use nt2_programs::command;
@@ -105,7 +105,7 @@ impl Write for Lines {
 }
 
 fn expect_line(lines: &Receiver<String>, line: &str) {
-    assert_eq!(lines.recv_timeout(PATIENCE).unwrap(), line);
+    assert_eq!(lines.recv_timeout(TIMEOUT).unwrap(), line);
 }
 
 #[test]
@@ -226,8 +226,8 @@ fn idle_client_sends_keep_alive() {
     assert_eq!(server.join().unwrap(), bytes_of(&Message::KeepAlive));
 }
 
-/// A port of the loopback at which nothing listens, and that is given to nobody.
-const NOBODY: &str = "127.0.0.1:1";
+/// An address of the loopback at which nothing listens; its port is never given by the system.
+const UNUSED_ADDRESS: &str = "127.0.0.1:1";
 
 /// A program that ends with its test.
 struct Running(Child);
@@ -289,7 +289,7 @@ fn server_program_that_cannot_listen() {
 
 #[test]
 fn client_program_without_a_server() {
-    let (status, printed, fault) = client_program(&["--server", NOBODY, "list"]);
+    let (status, printed, fault) = client_program(&["--server", UNUSED_ADDRESS, "list"]);
     assert_eq!((status, printed.as_str()), (Some(1), ""));
     assert!(fault.starts_with("nt2-client: connection: "));
 }

@@ -1,6 +1,6 @@
 //! The server, from the other end of its streams.
 
-use crate::support::{HELLO, PATIENCE, TestClient, TestServer, assert_same, bytes_of, new_entry};
+use crate::support::{HELLO, TIMEOUT, TestClient, TestServer, assert_same, bytes_of, new_entry};
 use nt2::{CONNECTIONS, Copied, LONGEST_UPDATE, Message, Type};
 use nt2_programs::server::{MOST_LINGERING, MOST_NOTICES, MOST_WAITING, Settings};
 use std::net::SocketAddr;
@@ -140,12 +140,12 @@ fn end_of_a_stream_leaves() {
 }
 
 #[test]
-fn seventeenth_is_turned_away() {
+fn seventeenth_connection_is_closed() {
     let server = TestServer::start();
     let mut clients: Vec<_> = (0..CONNECTIONS).map(|number| server.connected(number)).collect();
     let mut one_more = TestClient::connect(server.address());
     one_more.expect_end();
-    assert!(server.next_notice().contains("turned away: all 16 connections are open"));
+    assert!(server.next_notice().contains("closed, all 16 connections are open"));
     assert_eq!(server.run(&["list"]).unwrap_err().status(), 1);
     drop(clients.remove(9));
     drop(clients.remove(4));
@@ -156,7 +156,7 @@ fn seventeenth_is_turned_away() {
 }
 
 #[test]
-fn silent_client_holds_nobody_up() {
+fn silent_client_does_not_delay_others() {
     let server = TestServer::start();
     let (_says_nothing, mut stops_halfway) = (server.connected(0), server.connected(1));
     stops_halfway.greet();
@@ -192,7 +192,7 @@ fn idle_connection_is_closed() {
 }
 
 #[test]
-fn client_that_sends_without_pause_holds_nobody_up() {
+fn client_that_sends_without_pause_does_not_delay_others() {
     let server = TestServer::start();
     let (mut busy, mut client) = (server.greeted(), server.greeted());
     busy.send_bytes(&[KEEP_ALIVE; 262_144]);
@@ -263,7 +263,7 @@ fn notices_that_are_not_taken_stop_no_call() {
 #[test]
 fn closed_connections_that_linger_are_bounded() {
     // Without the bound none of them would end in the test's time.
-    let settings = Settings { linger: 10 * PATIENCE, ..Settings::default() };
+    let settings = Settings { linger: 10 * TIMEOUT, ..Settings::default() };
     let server = TestServer::start_with(settings, || {});
     let closed_by_server = || {
         let mut client = server.connected(0);

@@ -11,7 +11,7 @@ use std::thread::{self, JoinHandle};
 use std::time::{Duration, Instant};
 
 /// What is expected comes long before; a test that waits longer fails.
-pub const PATIENCE: Duration = Duration::from_secs(30);
+pub const TIMEOUT: Duration = Duration::from_secs(30);
 
 /// Any free port of the loopback.
 pub const ANY_PORT: &str = "127.0.0.1:0";
@@ -64,7 +64,7 @@ impl TestServer {
     }
 
     pub fn next_notice(&self) -> String {
-        self.notices.recv_timeout(PATIENCE).unwrap()
+        self.notices.recv_timeout(TIMEOUT).unwrap()
     }
 
     /// Whether a notice comes within a time, and has this text.
@@ -117,8 +117,8 @@ impl TestClient {
     }
 
     fn on(stream: TcpStream) -> Self {
-        stream.set_read_timeout(Some(PATIENCE)).unwrap();
-        stream.set_write_timeout(Some(PATIENCE)).unwrap();
+        stream.set_read_timeout(Some(TIMEOUT)).unwrap();
+        stream.set_write_timeout(Some(TIMEOUT)).unwrap();
         stream.set_nodelay(true).unwrap();
         TestClient { copy: CopyTable::new(), stream, held: Vec::new() }
     }
@@ -190,7 +190,7 @@ impl TestClient {
     pub fn send_until_closed(&mut self) {
         let start = Instant::now();
         while self.stream.write_all(&[0]).is_ok() {
-            assert!(start.elapsed() < PATIENCE, "the stream is not closed");
+            assert!(start.elapsed() < TIMEOUT, "the stream is not closed");
             thread::sleep(Duration::from_millis(1));
         }
     }
@@ -206,8 +206,8 @@ impl TestClient {
         assert_eq!(self.held, []);
     }
 
-    /// Waits for bytes; false at the end of the stream. One that is turned away finds its stream
-    /// reset, if it has sent something.
+    /// Waits for bytes; false at the end of the stream. Where all connections were open, the
+    /// stream is reset if something was sent.
     fn read(&mut self) -> bool {
         let mut buffer = [0; 65_536];
         match self.stream.read(&mut buffer) {
