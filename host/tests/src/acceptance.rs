@@ -165,7 +165,7 @@ fn check_call<I: Implementation>(memories: &[Memory], case: &Json, name: &str) -
     let before = case_memory(memories, case)?;
     let (mut server, mut copy) = (before.clone(), before.clone());
     let mut out = Guarded::output(case.get("o").map_or(Ok(0), Json::number)?);
-    let outcome = call.perform::<I>(&mut server, &mut copy, &mut out);
+    let outcome = call.perform::<I>(&mut server, &mut copy, &mut out)?;
 
     check_outcome(case, &call, outcome)?;
     check_output(case, outcome.sent(), &out)?;
@@ -390,7 +390,7 @@ fn check_step<I: Implementation>(
     let (call, room, rest) = step_call(step)?;
     let before = memory.clone();
     let mut out = Guarded::output(room);
-    let outcome = call.perform::<I>(memory, &mut before.clone(), &mut out);
+    let outcome = call.perform::<I>(memory, &mut before.clone(), &mut out)?;
     let [result, sent, hash @ ..] = rest else {
         return Err("a step has an answer and an output".into());
     };

@@ -4,6 +4,7 @@ use crate::implementation::Implementation;
 use crate::memory::{Guarded, Memory};
 use nt2_sys::{Answer, Copied, Fields, Scalar};
 use std::fmt;
+use std::hint::black_box;
 
 /// Bytes that are shown as hex.
 #[derive(Clone, PartialEq, Eq)]
@@ -30,6 +31,14 @@ pub enum Call {
     CopyFresh,
     CopyReceive { message: Hex },
     CopyRead { id: u16 },
+}
+
+/// The bytes that a call only reads, each in guarded memory.
+#[derive(PartialEq)]
+struct Inputs {
+    message: Guarded<u8>,
+    name: Guarded<u8>,
+    value: Guarded<u8>,
 }
 
 #[derive(Clone, Copy, Debug)]
@@ -74,38 +83,69 @@ impl Call {
         }
     }
 
-    /// Makes the call: on a server's memory, a copy's memory and an output.
+    fn inputs(&self) -> Inputs {
+        let (message, name, value): (&[u8], &[u8], &[u8]) = match self {
+            Call::Receive { message, .. }
+            | Call::CopyReceive { message }
+            | Call::Decode { bytes: message, .. } => (&message.0, &[], &[]),
+            Call::Create { name, value, .. } | Call::Encode { name, value, .. } => {
+                (&[], &name.0, &value.0)
+            }
+            Call::Write { value, .. } => (&[], &[], &value.0),
+            _ => (&[], &[], &[]),
+        };
+        let lend = |bytes| Guarded::new(bytes, 0xDE);
+        Inputs { message: lend(message), name: lend(name), value: lend(value) }
+    }
+
+    /// Makes the call: on a server's memory, a copy's memory and an output. Fails where it has
+    /// changed what it only reads.
     pub fn perform<I: Implementation>(
         &self,
+        server: &mut Memory,
+        copy: &mut Memory,
+        out: &mut Guarded<u8>,
+    ) -> Result<Outcome, String> {
+        let inputs = self.inputs();
+        let outcome = self.perform_with::<I>(&inputs, server, copy, out);
+        // The compiler takes what is lent as shared for unchanged; it has to be read again.
+        if *black_box(&inputs) == self.inputs() {
+            Ok(outcome)
+        } else {
+            Err(format!("{}: message, name or value changed by {self:?}", I::NAME))
+        }
+    }
+
+    fn perform_with<I: Implementation>(
+        &self,
+        inputs: &Inputs,
         server: &mut Memory,
         copy: &mut Memory,
         out: &mut Guarded<u8>,
     ) -> Outcome {
         let (table, marks) = server.lend();
         let out = out.lent_mut();
+        let (message, name, value) =
+            (inputs.message.lent(), inputs.name.lent(), inputs.value.lent());
         match self {
             Call::Fresh => Outcome::Answer(I::fresh(table, marks)),
             Call::Open { connection } => Outcome::Answer(I::open(table, marks, *connection)),
             Call::Leave { connection } => Outcome::Answer(I::leave(table, marks, *connection)),
-            Call::Receive { connection, message } => {
-                Outcome::Answer(I::receive(table, marks, *connection, &message.0, out))
+            Call::Receive { connection, .. } => {
+                Outcome::Answer(I::receive(table, marks, *connection, message, out))
             }
-            Call::Create { name, type_code, value } => {
-                Outcome::Answer(I::create(table, marks, &name.0, *type_code, &value.0, out))
+            Call::Create { type_code, .. } => {
+                Outcome::Answer(I::create(table, marks, name, *type_code, value, out))
             }
-            Call::Write { id, value } => {
-                Outcome::Answer(I::write(table, marks, *id, &value.0, out))
-            }
+            Call::Write { id, .. } => Outcome::Answer(I::write(table, marks, *id, value, out)),
             Call::Read { id } => Outcome::Scalar(I::read(table, *id)),
-            Call::Encode { kind, revision, name, type_code, id, number, value } => Outcome::Answer(
-                I::encode(*kind, *revision, &name.0, *type_code, *id, *number, &value.0, out),
+            Call::Encode { kind, revision, type_code, id, number, .. } => Outcome::Answer(
+                I::encode(*kind, *revision, name, *type_code, *id, *number, value, out),
             ),
-            Call::Decode { bytes, update_type } => {
-                Outcome::Fields(I::decode(&bytes.0, *update_type))
-            }
+            Call::Decode { update_type, .. } => Outcome::Fields(I::decode(message, *update_type)),
             Call::CopyFresh => Outcome::Answer(I::copy_fresh(copy.lend_table())),
-            Call::CopyReceive { message } => {
-                Outcome::Copied(I::copy_receive(copy.lend_table(), &message.0))
+            Call::CopyReceive { .. } => {
+                Outcome::Copied(I::copy_receive(copy.lend_table(), message))
             }
             Call::CopyRead { id } => Outcome::Scalar(I::read(copy.lend_table(), *id)),
         }

@@ -159,7 +159,7 @@ pub fn run<S: Implementation, C: Implementation>(seed: u64, calls: usize) -> Res
             _ => generator.call(&server, &unused),
         };
         out.lend_only(room);
-        let outcome = call.perform::<S>(&mut server, &mut unused, &mut out);
+        let outcome = call.perform::<S>(&mut server, &mut unused, &mut out)?;
         run.calls += 1;
         run.done += usize::from(outcome.number() == 0);
         if let Outcome::Answer(answer) = outcome {

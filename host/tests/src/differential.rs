@@ -149,13 +149,14 @@ impl<L: Implementation, R: Implementation> Series<L, R> {
         }
     }
 
-    /// Makes a call on both sides and compares answer, output and memory.
+    /// Makes a call on both sides and compares answer, output and memory. What the call only reads is
+    /// in guarded memory too.
     fn compare(&mut self, call: &Call, room: usize) -> Result<(), String> {
         let (left, right) = (&mut self.left, &mut self.right);
         left.out.lend_only(room);
         right.out.lend_only(room);
-        let outcome = call.perform::<L>(&mut left.server, &mut left.copy, &mut left.out);
-        let other = call.perform::<R>(&mut right.server, &mut right.copy, &mut right.out);
+        let outcome = call.perform::<L>(&mut left.server, &mut left.copy, &mut left.out)?;
+        let other = call.perform::<R>(&mut right.server, &mut right.copy, &mut right.out)?;
         let failed = |what: &str| {
             let names = (L::NAME, R::NAME);
             format!(
