@@ -1,7 +1,7 @@
 //! Demand 3 on random runs: server and copy of the library, and the library's server with the
 //! reference's copy.
 //!
-//! Arguments: `--seed N`, `--runs N`, `--calls N` of each run, `--seconds N`.
+//! Arguments: `--seed N`, `--runs N`, `--calls N` of each run, `--seconds N` for all of them.
 
 use nt2_tests::arguments::Arguments;
 use nt2_tests::convergence::run as random_run;
@@ -18,7 +18,7 @@ fn run() -> Result<(), String> {
     let arguments = Arguments::read(&["seed", "runs", "calls", "seconds"])?;
     let seed = arguments.number("seed", clock_seed())?;
     let (runs, calls) = (arguments.number("runs", 60)?, arguments.number("calls", 0usize)?);
-    let time = Duration::from_secs(arguments.number("seconds", 60)?);
+    let time = Duration::from_secs(arguments.number("seconds", 240)?);
     println!("convergence, {}: seed {seed}", Tested::NAME);
     let start = Instant::now();
     let (mut made, mut total, mut done) = (0u64, 0, 0);
@@ -44,6 +44,9 @@ fn run() -> Result<(), String> {
     println!(
         "  {clients} clients' copies equal at the end: {messages} messages, {entries} entries"
     );
+    if made < runs {
+        return Err(format!("only {made} of {runs} runs in time"));
+    }
     if clients == 0 { Err("no clean client".into()) } else { Ok(()) }
 }
 
