@@ -468,7 +468,7 @@ impl Generator {
                 let lot = self.random.below(1000);
                 return format!("lot/{lot}/parents").into_bytes();
             }
-            6 => return self.balanced_name(),
+            6 => return balanced_name(self.random.below(BALANCED_NAMES) as u8),
             1 => 0,
             2 => 1 + self.random.below(3),
             3 => NAME_ROOM,
@@ -476,14 +476,6 @@ impl Generator {
             _ => self.random.below(NAME_ROOM + 1),
         };
         self.text(length)
-    }
-
-    /// One of 12 names that have the same sum of bytes by their places, whatever the distance of two
-    /// neighbouring places' weights: the library gives them one fingerprint.
-    fn balanced_name(&mut self) -> Vec<u8> {
-        let step = self.random.below(12) as u8;
-        let (low, high) = (b'm' - step, b'm' + step);
-        [&b"lot/"[..], &[low, high, high, low], b"/parents"].concat()
     }
 
     /// A name, held in the table in so many of 100 cases. Few of the others are faults.
@@ -804,6 +796,17 @@ impl Generator {
     }
 }
 
+/// Names with one fingerprint.
+const BALANCED_NAMES: usize = 12;
+
+/// A name to which the library gives the same fingerprint as to the others: the weights of places 4
+/// and 5 differ as those of places 6 and 7 do (crates/soundness/specs/Fingerprint.antt), so that the
+/// steps cancel out.
+fn balanced_name(step: u8) -> Vec<u8> {
+    let (low, high) = (b'm' - step, b'm' + step);
+    [&b"lot/"[..], &[low, high, high, low], b"/parents"].concat()
+}
+
 /// A text behind its length.
 fn prefixed(text: &[u8]) -> Vec<u8> {
     [&(text.len() as u16).to_be_bytes(), text].concat()
@@ -824,4 +827,17 @@ fn hello_answer_length(server: &Memory) -> usize {
     let lengths =
         heads.iter().map(|h| 8 + usize::from(h.name_length) + usize::from(h.value_length));
     lengths.sum::<usize>() + 1
+}
+
+#[cfg(test)]
+mod tests {
+    use super::*;
+    use crate::fingerprint::fingerprint;
+
+    #[test]
+    fn balanced_names_have_one_fingerprint() {
+        let names: Vec<_> = (0..BALANCED_NAMES as u8).map(balanced_name).collect();
+        assert!(names.is_sorted_by(|left, right| left > right), "all differ");
+        assert!(names.iter().all(|name| fingerprint(name) == fingerprint(&names[0])));
+    }
 }
