@@ -7,11 +7,14 @@ use nt2_sys::{
 use nt2_tests::implementation::Implementation;
 use std::hint::black_box;
 
-pub const VALUES: [&str; 3] = [
+pub const VALUES: [&str; 4] = [
     "small: short names, Booleans",
     "typical: lot/NAME/parents, four lots",
     "largest: names of 64 bytes, values of 256",
+    "shared: names with one fingerprint, Booleans",
 ];
+/// The place of the values that are the worst case for the library's test that names differ.
+pub const WORST_CASE: usize = 3;
 
 /// The calls; those from `TABLE_CALLS` on have no table.
 pub const CALLS: [&str; 21] = [
@@ -64,6 +67,17 @@ fn prefixed(text: &[u8]) -> Vec<u8> {
     [&(text.len() as u16).to_be_bytes(), text].concat()
 }
 
+/// One of 64 names with the same fingerprint in the library. Of the places 0 to 3, and of 4 to 7, the
+/// first two weights differ as the last two do (crates/soundness/specs/Fingerprint.antt), so that the
+/// steps cancel out.
+fn shared_name(i: usize) -> Vec<u8> {
+    let four = |step: usize| {
+        let (low, high) = (b'm' - step as u8, b'm' + step as u8);
+        [low, high, high, low]
+    };
+    [four(i / 8), four(i % 8)].concat()
+}
+
 /// Name and value of an entry, the value in two versions.
 fn entry(values: usize, i: usize, version: usize) -> (Vec<u8>, u8, Vec<u8>) {
     match values {
@@ -73,6 +87,7 @@ fn entry(values: usize, i: usize, version: usize) -> (Vec<u8>, u8, Vec<u8>) {
             let lots: Vec<u8> = (version..version + 4).flat_map(lot).collect();
             (format!("lot/2026-{i:04}/parents").into_bytes(), 0x12, [&[4][..], &lots].concat())
         }
+        WORST_CASE => (shared_name(i), 0x00, vec![version as u8]),
         _ => {
             let name = format!("{:n<width$}{i:02}", "plant", width = NAME_ROOM - 2);
             (name.into_bytes(), 0x02, prefixed(&vec![b'v' + version as u8; 254]))
@@ -299,5 +314,18 @@ impl Subject {
             assert_eq!(black_box(answer).number, 0);
         }
         self.marks[SENDER] = 1;
+    }
+}
+
+#[cfg(test)]
+mod tests {
+    use super::*;
+    use nt2_tests::fingerprint::fingerprint;
+
+    #[test]
+    fn shared_names_have_one_fingerprint() {
+        let names: Vec<_> = (0..ENTRIES).map(shared_name).collect();
+        assert!(names.is_sorted_by(|left, right| left > right), "all differ");
+        assert!(names.iter().all(|name| fingerprint(name) == fingerprint(&names[0])));
     }
 }
