@@ -1,5 +1,8 @@
 /* Uses every call of nt2.h and checks its answers: the listing of the build description, then a
  * client's copy that follows a server. Prints the listing, and ends with 1 at the first fault.
+ *
+ * All that is lent is a heap block of its own, exactly as long as it is lent, so that valgrind sees
+ * each access beyond it.
  */
 #include "nt2.h"
 
@@ -7,8 +10,33 @@
 #include <stdlib.h>
 #include <string.h>
 
-_Static_assert(sizeof(nt2_head) == 8, "a head");
 _Static_assert(NT2_TABLE_BYTES == NT2_ENTRIES * NT2_ENTRY_ROOM, "a table");
+
+_Static_assert(sizeof(nt2_head) == 8, "a head");
+_Static_assert(offsetof(nt2_head, value_length) == 2, "a head's value length");
+_Static_assert(offsetof(nt2_head, type_code) == 4, "a head's type");
+_Static_assert(offsetof(nt2_head, number) == 6, "a head's number");
+
+_Static_assert(sizeof(nt2_answer) == 24, "an answer");
+_Static_assert(offsetof(nt2_answer, recipients) == 2, "an answer's recipients");
+_Static_assert(offsetof(nt2_answer, taken) == 8, "an answer's bytes taken");
+_Static_assert(offsetof(nt2_answer, sent) == 16, "an answer's bytes sent");
+
+_Static_assert(sizeof(nt2_scalar) == 16, "a scalar");
+_Static_assert(offsetof(nt2_scalar, found) == 1, "what a scalar's value is");
+_Static_assert(offsetof(nt2_scalar, flag) == 2, "a scalar's flag");
+_Static_assert(offsetof(nt2_scalar, value) == 8, "a scalar's number");
+
+_Static_assert(sizeof(nt2_copied) == 16, "a copy's answer");
+_Static_assert(offsetof(nt2_copied, revision) == 2, "a copy's revision");
+_Static_assert(offsetof(nt2_copied, taken) == 8, "a copy's bytes taken");
+
+_Static_assert(sizeof(nt2_fields) == 40, "fields");
+_Static_assert(offsetof(nt2_fields, type_code) == 2, "the type");
+_Static_assert(offsetof(nt2_fields, revision) == 4, "the revision");
+_Static_assert(offsetof(nt2_fields, entry_number) == 8, "the entry's number");
+_Static_assert(offsetof(nt2_fields, taken) == 16, "the message's length");
+_Static_assert(offsetof(nt2_fields, value_length) == 32, "the value's length");
 
 #define CHECK(condition)                                                        \
     do {                                                                        \
@@ -18,16 +46,74 @@ _Static_assert(NT2_TABLE_BYTES == NT2_ENTRIES * NT2_ENTRY_ROOM, "a table");
         }                                                                       \
     } while (0)
 
+/* What an output holds before a call. */
+enum { FILL = 0xA5 };
+
 typedef struct {
-    nt2_head heads[NT2_ENTRIES];
-    uint8_t bytes[NT2_TABLE_BYTES];
-    uint8_t marks[NT2_CONNECTIONS];
-    uint16_t count;
+    nt2_head *heads;
+    uint8_t *bytes;
+    uint16_t *count;
+    uint8_t *marks;
 } table;
 
 /* A table's arguments, without and with its marks. */
-#define COPY(t) (t)->heads, NT2_ENTRIES, (t)->bytes, NT2_TABLE_BYTES, &(t)->count
-#define SERVER(t) COPY(t), (t)->marks, NT2_CONNECTIONS
+#define COPY(t) (t).heads, NT2_ENTRIES, (t).bytes, NT2_TABLE_BYTES, (t).count
+#define SERVER(t) COPY(t), (t).marks, NT2_CONNECTIONS
+
+/* Bytes of a message, name or value, or of an output. */
+typedef struct {
+    uint8_t *bytes;
+    size_t length;
+} block;
+
+#define LENT(b) (b).bytes, (b).length
+
+static void *new_memory(size_t length) {
+    void *memory = malloc(length);
+    CHECK(memory != NULL);
+    return memory;
+}
+
+/* Memory with any contents: a fresh start sets what is looked at later. */
+static table new_table(void) {
+    table t = {new_memory(NT2_ENTRIES * sizeof(nt2_head)), new_memory(NT2_TABLE_BYTES),
+               new_memory(sizeof(uint16_t)), new_memory(NT2_CONNECTIONS)};
+    return t;
+}
+
+static void free_table(table t) {
+    free(t.heads);
+    free(t.bytes);
+    free(t.count);
+    free(t.marks);
+}
+
+static block new_input(const void *bytes, size_t length) {
+    block input = {new_memory(length), length};
+    memcpy(input.bytes, bytes, length);
+    return input;
+}
+
+/* An input is as it was before the call. */
+static void free_input(block input, const void *bytes) {
+    CHECK(memcmp(input.bytes, bytes, input.length) == 0);
+    free(input.bytes);
+}
+
+/* A new output of this length takes the place of the one before. */
+static void new_output(block *out, size_t length) {
+    free(out->bytes);
+    out->bytes = new_memory(length);
+    out->length = length;
+    memset(out->bytes, FILL, length);
+}
+
+/* The output's rest, behind what is sent, is as it was before the call. */
+static void check_rest(const block *out, size_t sent) {
+    CHECK(sent <= out->length);
+    for (size_t i = sent; i < out->length; i++)
+        CHECK(out->bytes[i] == FILL);
+}
 
 static bool answers(nt2_answer answer, uint8_t number, size_t taken, size_t sent,
                     uint16_t recipients) {
@@ -35,18 +121,63 @@ static bool answers(nt2_answer answer, uint8_t number, size_t taken, size_t sent
            answer.recipients == recipients;
 }
 
-/* Memory with any contents: a fresh start sets what is looked at later. */
-static table *new_table(void) {
-    table *t = malloc(sizeof *t);
-    CHECK(t != NULL);
-    return t;
+/* The calls with inputs, and with an output of some room. */
+
+static nt2_answer receive(table t, size_t connection, const void *message, size_t length,
+                          block *out, size_t room) {
+    block input = new_input(message, length);
+    new_output(out, room);
+    nt2_answer a = nt2_receive(SERVER(t), connection, LENT(input), LENT(*out));
+    check_rest(out, a.sent);
+    free_input(input, message);
+    return a;
 }
 
-static uint8_t *new_output(void) {
-    uint8_t *out = malloc(NT2_LONGEST_HELLO_ANSWER);
-    CHECK(out != NULL);
-    memset(out, 0xA5, NT2_LONGEST_HELLO_ANSWER);
-    return out;
+static nt2_answer create(table t, const char *name, size_t name_length, uint8_t type_code,
+                         const void *value, size_t value_length, block *out, size_t room) {
+    block n = new_input(name, name_length), v = new_input(value, value_length);
+    new_output(out, room);
+    nt2_answer a = nt2_create(SERVER(t), LENT(n), type_code, LENT(v), LENT(*out));
+    check_rest(out, a.sent);
+    free_input(n, name);
+    free_input(v, value);
+    return a;
+}
+
+static nt2_answer write_value(table t, uint16_t id, const void *value, size_t length, block *out,
+                              size_t room) {
+    block v = new_input(value, length);
+    new_output(out, room);
+    nt2_answer a = nt2_write(SERVER(t), id, LENT(v), LENT(*out));
+    check_rest(out, a.sent);
+    free_input(v, value);
+    return a;
+}
+
+/* The message writer with a Boolean. */
+static nt2_answer encode(uint8_t kind, const char *name, uint16_t id, uint16_t number, uint8_t flag,
+                         block *out, size_t room) {
+    block n = new_input(name, strlen(name)), v = new_input(&flag, 1);
+    new_output(out, room);
+    nt2_answer a = nt2_encode(kind, 0, LENT(n), NT2_BOOLEAN, id, number, LENT(v), LENT(*out));
+    check_rest(out, a.sent);
+    free_input(n, name);
+    free_input(v, &flag);
+    return a;
+}
+
+static nt2_fields decode(const void *bytes, size_t length, uint8_t update_type) {
+    block input = new_input(bytes, length);
+    nt2_fields f = nt2_decode(LENT(input), update_type);
+    free_input(input, bytes);
+    return f;
+}
+
+static nt2_copied copy_receive(table copy, const void *message, size_t length) {
+    block input = new_input(message, length);
+    nt2_copied c = nt2_copy_receive(COPY(copy), LENT(input));
+    free_input(input, message);
+    return c;
 }
 
 static void listing(void) {
@@ -62,32 +193,32 @@ static void listing(void) {
                                    "end 26 entries 1\n";
     char text[1024];
     size_t length = 0, offset = 0;
-    table *t = new_table();
-    uint8_t *out = new_output();
+    table t = new_table();
+    block out = {NULL, 0};
 
     CHECK(answers(nt2_fresh(SERVER(t)), NT2_DONE, 0, 0, 0));
     CHECK(answers(nt2_open(SERVER(t), 0), NT2_DONE, 0, 0, 0));
     length += (size_t)sprintf(text + length, "offset taken answer to sent\n");
     while (offset < sizeof input) {
-        nt2_answer a = nt2_receive(SERVER(t), 0, input + offset, sizeof input - offset, out,
-                                   NT2_LONGEST_HELLO_ANSWER);
+        nt2_answer a = receive(t, 0, input + offset, sizeof input - offset, &out,
+                               NT2_LONGEST_HELLO_ANSWER);
         length += (size_t)sprintf(text + length, "%zu %zu %u %04x %zu\n", offset, a.taken,
                                   (unsigned)a.number, (unsigned)a.recipients, a.sent);
         if (a.taken == 0)
             break;
         offset += a.taken;
     }
-    sprintf(text + length, "end %zu entries %u\n", offset, (unsigned)t->count);
+    sprintf(text + length, "end %zu entries %u\n", offset, (unsigned)*t.count);
     fputs(text, stdout);
     CHECK(strcmp(text, expected) == 0);
-    free(out);
-    free(t);
+    free(out.bytes);
+    free_table(t);
 }
 
 /* Feeds all messages to the copy. */
-static void feed(table *copy, const uint8_t *bytes, size_t length) {
+static void feed(table copy, const uint8_t *bytes, size_t length) {
     while (length > 0) {
-        nt2_copied c = nt2_copy_receive(COPY(copy), bytes, length);
+        nt2_copied c = copy_receive(copy, bytes, length);
         CHECK(c.number == NT2_DONE || c.number == NT2_IGNORED);
         CHECK(c.taken > 0 && c.taken <= length);
         bytes += c.taken;
@@ -95,111 +226,135 @@ static void feed(table *copy, const uint8_t *bytes, size_t length) {
     }
 }
 
-static void same_entries(const table *server, const table *copy) {
-    CHECK(server->count == copy->count);
-    for (size_t i = 0; i < server->count; i++) {
-        const nt2_head *head = &server->heads[i];
-        const uint8_t *name = server->bytes + NT2_ENTRY_ROOM * i;
-        const uint8_t *copied = copy->bytes + NT2_ENTRY_ROOM * i;
-        CHECK(memcmp(head, &copy->heads[i], sizeof *head) == 0);
+static void same_entries(table server, table copy) {
+    CHECK(*server.count == *copy.count);
+    for (size_t i = 0; i < *server.count; i++) {
+        const nt2_head *head = &server.heads[i];
+        const uint8_t *name = server.bytes + NT2_ENTRY_ROOM * i;
+        const uint8_t *copied = copy.bytes + NT2_ENTRY_ROOM * i;
+        CHECK(memcmp(head, &copy.heads[i], sizeof *head) == 0);
         CHECK(memcmp(name, copied, head->name_length) == 0);
         CHECK(memcmp(name + NT2_NAME_ROOM, copied + NT2_NAME_ROOM, head->value_length) == 0);
     }
 }
 
-static void copy_follows(void) {
-    static const uint8_t hello[] = {NT2_HELLO, 0x02, 0x00};
-    static const uint8_t other_revision[] = {NT2_HELLO, 0x03, 0x00};
-    static const uint8_t unsupported[] = {NT2_UNSUPPORTED, 0x02, 0x00};
-    static const uint8_t name[] = "lot/3/parents";
+static const uint8_t hello[] = {NT2_HELLO, 0x02, 0x00};
+static const uint8_t other_revision[] = {NT2_HELLO, 0x03, 0x00};
+static const uint8_t unsupported[] = {NT2_UNSUPPORTED, 0x02, 0x00};
+
+/* Entries 0 and 1 of a server whose connection 5 is greeted, each output just long enough. */
+static void copy_follows(table server, table copy, block *out) {
+    static const char name[] = "lot/3/parents";
     static const uint8_t parents[] = "\002\000\005lot/1\000\005lot/2";
     static const uint8_t zero[8] = {0}, one[8] = {0x3F, 0xF0};
-    table *server = new_table(), *copy = new_table();
-    uint8_t *out = new_output();
-    const size_t room = NT2_LONGEST_HELLO_ANSWER;
+    const size_t name_length = sizeof name - 1, length = sizeof parents - 1;
+    const size_t assignment = 8 + name_length + length;
     nt2_answer a;
-    nt2_copied c;
-    nt2_scalar s;
 
     CHECK(nt2_fresh(SERVER(server)).number == NT2_DONE);
     CHECK(nt2_copy_fresh(COPY(copy)).number == NT2_DONE);
-    CHECK(answers(nt2_create(SERVER(server), name, sizeof name - 1, NT2_STRING_ARRAY, parents,
-                             sizeof parents - 1, out, room),
-                  NT2_DONE, 0, 8 + sizeof name - 1 + sizeof parents - 1, 0));
+    a = create(server, name, name_length, NT2_STRING_ARRAY, parents, length, out, assignment);
+    CHECK(answers(a, NT2_DONE, 0, assignment, 0));
     CHECK(nt2_open(SERVER(server), 5).number == NT2_DONE);
-    a = nt2_receive(SERVER(server), 5, hello, sizeof hello, out, room);
-    CHECK(answers(a, NT2_DONE, 3, 9 + sizeof name - 1 + sizeof parents - 1, 1 << 5));
-    feed(copy, out, a.sent);
+    a = receive(server, 5, hello, sizeof hello, out, assignment);
+    CHECK(answers(a, NT2_ROOM, 0, 0, 0));
+    a = receive(server, 5, hello, sizeof hello, out, assignment + 1);
+    CHECK(answers(a, NT2_DONE, 3, assignment + 1, 1 << 5));
+    feed(copy, out->bytes, a.sent);
     same_entries(server, copy);
 
-    a = nt2_create(SERVER(server), name, 3, NT2_DOUBLE, zero, 8, out, room);
+    a = create(server, name, 3, NT2_DOUBLE, zero, 8, out, 8 + 3 + 8);
     CHECK(answers(a, NT2_DONE, 0, 8 + 3 + 8, 1 << 5));
-    feed(copy, out, a.sent);
-    a = nt2_write(SERVER(server), 1, one, 8, out, room);
+    feed(copy, out->bytes, a.sent);
+    a = write_value(server, 1, one, 8, out, 5 + 8);
     CHECK(answers(a, NT2_DONE, 0, 5 + 8, 1 << 5));
-    feed(copy, out, a.sent);
-    CHECK(answers(nt2_write(SERVER(server), 1, one, 8, out, 0), NT2_IGNORED, 0, 0, 0));
-    CHECK(answers(nt2_write(SERVER(server), 1, zero, 8, out, 12), NT2_ROOM, 0, 0, 0));
+    feed(copy, out->bytes, a.sent);
+    CHECK(answers(write_value(server, 1, one, 8, out, 0), NT2_IGNORED, 0, 0, 0));
+    CHECK(answers(write_value(server, 1, zero, 8, out, 5 + 7), NT2_ROOM, 0, 0, 0));
+    CHECK(answers(write_value(server, 1, zero, 7, out, 5 + 8), NT2_INCOMPLETE, 0, 0, 0));
     same_entries(server, copy);
+}
 
-    s = nt2_read(COPY(server), 1);
+static void entries_are_read(table server, table copy) {
+    nt2_scalar s = nt2_read(COPY(server), 1);
     CHECK(s.number == NT2_DONE && s.found == NT2_FOUND_DOUBLE && s.value == 1.0 && !s.flag);
     s = nt2_read(COPY(copy), 0);
     CHECK(s.number == NT2_DONE && s.found == NT2_FOUND_NEITHER);
     CHECK(nt2_read(COPY(copy), 2).number == NT2_UNKNOWN_ID);
+}
+
+static void connections_close(table server, table copy, block *out) {
+    nt2_answer a;
+    nt2_copied c;
 
     CHECK(nt2_open(SERVER(server), 6).number == NT2_DONE);
     CHECK(nt2_open(SERVER(server), 6).number == NT2_STATE);
     CHECK(nt2_open(SERVER(server), 16).number == NT2_NO_SUCH_CONNECTION);
-    a = nt2_receive(SERVER(server), 6, other_revision, sizeof other_revision, out, room);
-    CHECK(answers(a, NT2_DONE, 3, 3, 1 << 6) && memcmp(out, unsupported, 3) == 0);
-    CHECK(server->marks[6] == NT2_CLOSED && server->marks[5] == NT2_GREETED);
-    c = nt2_copy_receive(COPY(copy), unsupported, sizeof unsupported);
+    a = receive(server, 6, other_revision, 2, out, 3);
+    CHECK(answers(a, NT2_INCOMPLETE, 0, 0, 0));
+    a = receive(server, 6, other_revision, sizeof other_revision, out, 3);
+    CHECK(answers(a, NT2_DONE, 3, 3, 1 << 6) && memcmp(out->bytes, unsupported, 3) == 0);
+    CHECK(server.marks[6] == NT2_CLOSED && server.marks[5] == NT2_GREETED);
+    c = copy_receive(copy, unsupported, sizeof unsupported);
     CHECK(c.number == NT2_IGNORED && c.taken == 3 && c.revision == 0x0200);
-    CHECK(nt2_copy_receive(COPY(copy), hello, sizeof hello).number == NT2_KIND);
+    CHECK(copy_receive(copy, hello, sizeof hello).number == NT2_KIND);
     CHECK(answers(nt2_leave(SERVER(server), 5), NT2_DONE, 0, 0, 0));
     CHECK(nt2_leave(SERVER(server), 5).number == NT2_STATE);
+}
 
-    server->heads[1].type_code = 3;
+static void unsound_table_is_refused(table server) {
+    server.heads[1].type_code = 3;
     CHECK(answers(nt2_open(SERVER(server), 5), NT2_UNSOUND, 0, 0, 0));
-    CHECK(nt2_fresh(server->heads, NT2_ENTRIES - 1, server->bytes, NT2_TABLE_BYTES, &server->count,
-                    server->marks, NT2_CONNECTIONS)
+    nt2_head *fewer = new_memory((NT2_ENTRIES - 1) * sizeof(nt2_head));
+    CHECK(nt2_fresh(fewer, NT2_ENTRIES - 1, server.bytes, NT2_TABLE_BYTES, server.count,
+                    server.marks, NT2_CONNECTIONS)
               .number == NT2_UNSOUND);
-    CHECK(server->count == 2);
-    free(out);
-    free(copy);
-    free(server);
+    CHECK(*server.count == 2);
+    free(fewer);
+}
+
+static void server_and_copy(void) {
+    table server = new_table(), copy = new_table();
+    block out = {NULL, 0};
+    copy_follows(server, copy, &out);
+    entries_are_read(server, copy);
+    connections_close(server, copy, &out);
+    unsound_table_is_refused(server);
+    free(out.bytes);
+    free_table(copy);
+    free_table(server);
 }
 
 static void there_and_back(void) {
-    static const uint8_t name[] = "tare", value[] = {1};
     static const uint8_t expected[] = {0x10, 0x00, 0x04, 't',  'a',  'r', 'e',
                                        0x00, 0x00, 0x07, 0xFF, 0xFF, 0x01};
-    uint8_t *out = new_output();
+    block out = {NULL, 0};
     nt2_fields f;
 
-    CHECK(answers(nt2_encode(NT2_ASSIGNMENT, 0, name, 4, NT2_BOOLEAN, 7, 65535, value, 1, out, 13),
-                  NT2_DONE, 0, 13, 0));
-    CHECK(memcmp(out, expected, sizeof expected) == 0 && out[13] == 0xA5);
-    f = nt2_decode(out, 13, NT2_BOOLEAN);
+    for (size_t room = 13; room <= 14; room++) {
+        nt2_answer a = encode(NT2_ASSIGNMENT, "tare", 7, 65535, 1, &out, room);
+        CHECK(answers(a, NT2_DONE, 0, 13, 0));
+        CHECK(memcmp(out.bytes, expected, sizeof expected) == 0);
+    }
+    f = decode(expected, 13, NT2_BOOLEAN);
     CHECK(f.number == NT2_DONE && f.kind == NT2_ASSIGNMENT && f.type_code == NT2_BOOLEAN);
     CHECK(f.id == 7 && f.entry_number == 65535 && f.revision == 0);
     CHECK(f.taken == 13 && f.name_length == 4 && f.value_length == 1);
-    CHECK(nt2_decode(out, 12, NT2_BOOLEAN).number == NT2_INCOMPLETE);
+    for (size_t length = 0; length < 13; length++)
+        CHECK(decode(expected, length, NT2_BOOLEAN).number == NT2_INCOMPLETE);
 
-    CHECK(answers(nt2_encode(NT2_UPDATE, 0, name, 0, NT2_BOOLEAN, 7, 2, value, 1, out, 6), NT2_DONE,
-                  0, 6, 0));
-    f = nt2_decode(out, 13, NT2_BOOLEAN);
+    CHECK(answers(encode(NT2_UPDATE, "", 7, 2, 1, &out, 7), NT2_DONE, 0, 6, 0));
+    f = decode(out.bytes, 7, NT2_BOOLEAN);
     CHECK(f.number == NT2_DONE && f.kind == NT2_UPDATE && f.type_code == 0);
     CHECK(f.id == 7 && f.entry_number == 2 && f.taken == 6 && f.value_length == 1);
-    CHECK(nt2_decode(out, 6, 3).number == NT2_TYPE);
-    CHECK(nt2_encode(0x04, 0, name, 4, NT2_BOOLEAN, 0, 0, value, 1, out, 13).number == NT2_KIND);
-    free(out);
+    CHECK(decode(out.bytes, 6, 3).number == NT2_TYPE);
+    CHECK(encode(0x04, "tare", 0, 0, 1, &out, 13).number == NT2_KIND);
+    free(out.bytes);
 }
 
 int main(void) {
     listing();
-    copy_follows();
+    server_and_copy();
     there_and_back();
     puts("example: all calls answered as expected");
     return 0;
