@@ -12,7 +12,7 @@ use std::net::{SocketAddr, TcpStream};
 use std::sync::mpsc::{Receiver, SyncSender};
 use std::sync::{Arc, Weak};
 
-/// At most so many closed connections still send what waits or read what is dropped.
+/// At most so many closed connections still have their stream, to send what waits.
 pub const MOST_LINGERING: usize = 16;
 
 /// What the owner is told.

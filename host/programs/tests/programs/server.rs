@@ -6,7 +6,7 @@ use nt2_programs::server::{MOST_LINGERING, MOST_NOTICES, MOST_WAITING, Settings}
 use std::net::SocketAddr;
 use std::sync::mpsc::channel;
 use std::thread;
-use std::time::Duration;
+use std::time::{Duration, Instant};
 
 const KEEP_ALIVE: u8 = 0x00;
 const UNKNOWN_KIND: u8 = 0x04;
@@ -179,8 +179,9 @@ fn idle_connection_is_closed() {
     let (mut without_hello, mut greeted) = (server.connected(0), server.connected(1));
     let mut sends_keep_alive = server.connected(2);
     greeted.greet();
-    let mut closed = 0;
+    let (start, mut closed) = (Instant::now(), 0);
     while closed < 2 {
+        assert!(start.elapsed() < TIMEOUT, "an idle connection is not closed");
         sends_keep_alive.send_bytes(&[KEEP_ALIVE]);
         let text = "left, nothing has arrived for too long";
         closed += usize::from(server.says_within(idle_limit / 10, text));
