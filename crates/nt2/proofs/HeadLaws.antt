@@ -108,11 +108,6 @@ loaded-at (suc k) hs flat w i l = elim (split l) [
   | inr m ↦ before (loaded k hs flat) k (getD hs k noHead) i m ∙ loaded-at k hs flat (omega arith) i m
 ]
 
-pub loaded-past : (k : ℕ) (hs : List Head) (flat : List ℕ) (j : ℕ) → k * 4 ≤ j → getD (loaded k hs flat) j 0 ≡ getD flat j 0
-unfolding loaded
-loaded-past zero hs flat j l = refl
-loaded-past (suc k) hs flat j l = past (loaded k hs flat) k (getD hs k noHead) j (inr (omega arith)) ∙ loaded-past k hs flat j (omega arith)
-
 pub stored-past : (k : ℕ) (flat : List ℕ) (hs : List Head) (j : ℕ) → k ≤ j → getD (stored k flat hs) j noHead ≡ getD hs j noHead
 unfolding stored
 stored-past zero flat hs j l = refl
@@ -125,12 +120,6 @@ stored-at (suc k) flat hs w i l = elim (split l) [
   | inl e ↦ subst (λ (j : ℕ). getD (set (stored k flat hs) k (headAt flat k)) j noHead ≡ headAt flat j) (sym e) (getD-set-same (stored k flat hs) k (headAt flat k) noHead (omega (arith, length-stored k flat hs)))
   | inr m ↦ getD-set-other (stored k flat hs) k i (headAt flat k) noHead (λ e. omega arith) ∙ stored-at k flat hs (omega arith) i m
 ]
-
-pub stored-loaded : (k : ℕ) (hs : List Head) (flat : List ℕ) → k ≤ length hs → k * 4 ≤ length flat → stored k (loaded k hs flat) hs ≡ hs
-stored-loaded k hs flat a b = ext-getD noHead (stored k (loaded k hs flat) hs) hs (length-stored k (loaded k hs flat) hs) (λ i l. elim (order i k) [
-  | inl m ↦ stored-at k (loaded k hs flat) hs a i m ∙ loaded-at k hs flat b i m
-  | inr m ↦ stored-past k (loaded k hs flat) hs i m
-])
 
 -- the heads that a call may have changed
 pub changed-small : (number : ℕ) → changed number ≤ 64

@@ -4,9 +4,13 @@
 /// Fingerprints that there are.
 const FINGERPRINTS: usize = 1024;
 
+/// Weights that there are, and from one place's to the next.
+const WEIGHTS: usize = 256;
+const WEIGHT_STEP: usize = 161;
+
 /// The weight of a place.
 fn weight_at(place: usize) -> usize {
-    1 + place * 161 % 256
+    1 + place * WEIGHT_STEP % WEIGHTS
 }
 
 /// The sum of all bytes, each by the weight of its place.
@@ -28,7 +32,9 @@ mod tests {
         let definition = fs::read_to_string(path).unwrap();
         for line in [
             "fingerprints = 1024",
-            "weightAt k = 1 + k * 161 % 256",
+            "weights = 256",
+            "weightStep = 161",
+            "weightAt k = 1 + k * weightStep % weights",
             "weighed (suc k) name = (weighed k name + getD name k 0 * weightAt k) % 2 ^ 16",
             "fingerprintOf name = weighed (length name) name % fingerprints",
         ] {
