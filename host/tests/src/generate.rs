@@ -288,7 +288,7 @@ impl Generator {
         let doubles = match type_code {
             0x01 => &mut value[..],
             0x11 => &mut value[1..],
-            _ => return value,
+            _ => return self.nearly_the_bytes(value),
         };
         if !doubles.is_empty() && self.random.percent(60) {
             let at = 8 * self.random.below(doubles.len() / 8);
@@ -297,6 +297,15 @@ impl Generator {
                 1 => doubles[at + 7] ^= 1,
                 _ => doubles[at..at + 8].copy_from_slice(&self.random.pick(&DOUBLES).to_be_bytes()),
             }
+        }
+        value
+    }
+
+    /// The same bytes, or with one changed behind a count or prefix.
+    fn nearly_the_bytes(&mut self, mut value: Vec<u8>) -> Vec<u8> {
+        if value.len() > 3 && self.random.percent(60) {
+            let at = 3 + self.random.below(value.len() - 3);
+            value[at] ^= 1;
         }
         value
     }
@@ -489,6 +498,10 @@ impl Generator {
                 }
                 2 if !name.is_empty() => *name.last_mut().expect("a byte") ^= 1,
                 3 if !name.is_empty() => name[0] ^= 1,
+                4 if !name.is_empty() => {
+                    let at = self.random.below(name.len());
+                    name[at] ^= 1;
+                }
                 _ => {}
             }
             return name;
