@@ -477,7 +477,10 @@ impl Generator {
                 let lot = self.random.below(1000);
                 return format!("lot/{lot}/parents").into_bytes();
             }
-            6 => return balanced_name(self.random.below(BALANCED_NAMES) as u8),
+            6 => {
+                let around = self.random.pick(&BALANCED_AROUND);
+                return balanced_name(around, self.random.below(BALANCED_NAMES) as u8);
+            }
             1 => 0,
             2 => 1 + self.random.below(3),
             3 => NAME_ROOM,
@@ -811,13 +814,15 @@ impl Generator {
 
 /// Names with one fingerprint.
 const BALANCED_NAMES: usize = 12;
+/// Bytes before and behind the four of a balanced name that differ.
+const BALANCED_AROUND: [(usize, usize); 4] = [(4, 8), (0, 0), (39, 21), (60, 0)];
 
-/// A name to which the library gives the same fingerprint as to the others: the weights of places 4
-/// and 5 differ as those of places 6 and 7 do (crates/soundness/specs/Fingerprint.antt), so that the
-/// steps cancel out.
-fn balanced_name(step: u8) -> Vec<u8> {
+/// A name to which the library gives the same fingerprint as to the others with so many bytes around
+/// its four: the weights of the first two of their places differ as those of the last two do
+/// (crates/soundness/specs/Fingerprint.antt), so that the steps cancel out.
+fn balanced_name((before, after): (usize, usize), step: u8) -> Vec<u8> {
     let (low, high) = (b'm' - step, b'm' + step);
-    [&b"lot/"[..], &[low, high, high, low], b"/parents"].concat()
+    [&[b'b'].repeat(before)[..], &[low, high, high, low], &[b'a'].repeat(after)].concat()
 }
 
 /// A text behind its length.
@@ -849,8 +854,11 @@ mod tests {
 
     #[test]
     fn balanced_names_have_one_fingerprint() {
-        let names: Vec<_> = (0..BALANCED_NAMES as u8).map(balanced_name).collect();
-        assert!(names.is_sorted_by(|left, right| left > right), "all differ");
-        assert!(names.iter().all(|name| fingerprint(name) == fingerprint(&names[0])));
+        for around in BALANCED_AROUND {
+            let steps = 0..BALANCED_NAMES as u8;
+            let names: Vec<_> = steps.map(|step| balanced_name(around, step)).collect();
+            assert!(names.is_sorted_by(|left, right| left > right), "all differ");
+            assert!(names.iter().all(|name| fingerprint(name) == fingerprint(&names[0])));
+        }
     }
 }
