@@ -83,6 +83,27 @@ fn copy_says_what_it_took() {
 }
 
 #[test]
+fn copy_takes_all_messages() {
+    let mut copy = CopyTable::new();
+    let messages = b"\x10\x00\x01a\x00\x00\x00\x00\x01\x00\x00\x10\x00\x01b\x00\x00\x01\x00\x01\x00\x11\x00\x01\x00\x02\x01";
+    let mut rest = &messages[..];
+    let mut taken = Vec::new();
+    while !rest.is_empty() {
+        let copied = copy.receive(rest).expect("a whole message");
+        rest = &rest[copied.taken()..];
+        taken.push(copied);
+    }
+    let update = Copied::Stored { taken: 6, id: 1 };
+    assert_eq!((taken.len(), taken[1], taken[3]), (4, Copied::Ignored { taken: 1 }, update));
+    let unsupported = Copied::Unsupported { taken: 3, revision: 0x0300 };
+    assert_eq!(copy.receive(&[0x02, 0x03, 0x00]), Ok(unsupported));
+    copy.fresh();
+    assert_eq!(copy.count(), 0);
+    assert_eq!(copy.receive_all(messages), Ok(()));
+    assert_eq!(copy.entry(1).map(|entry| entry.number), Some(2));
+}
+
+#[test]
 fn refusals_by_name() {
     let mut out = [0; 400];
     let (mut table, mut copy) = (ServerTable::new(), CopyTable::new());
