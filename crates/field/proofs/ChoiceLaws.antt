@@ -16,3 +16,8 @@ pick-true {X = X} x y e = ap (λ (b : Bool). pick b x y) e
 pub pick-false {ℓ} : {X : Type ℓ} {b : Bool} (x y : X) → b ≡ false → pick b x y ≡ y
 unfolding pick
 pick-false {X = X} x y e = ap (λ (b : Bool). pick b x y) e
+
+pub pick-cong : {X : Type 0} (b : Bool) {x x′ y y′ : X} → x ≡ x′ → (b ≡ false → y ≡ y′) → pick b x y ≡ pick b x′ y′
+unfolding pick
+pick-cong true e f = e
+pick-cong false e f = f refl

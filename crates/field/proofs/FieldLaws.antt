@@ -1,4 +1,4 @@
--- Laws of fields that are there, and of a reader's refusal.
+-- Laws of fields that are there.
 use mathlib.Core.Path.{_≡_, refl}
 use mathlib.Core.List.{List}
 use Prim.Native.Nat.{ℕ, _+_, _≤_, _<_}
@@ -6,8 +6,6 @@ use lib.ListN.{length, getD, drop}
 use borrow.Author.Tests.{leb-true, leb-false}
 use Rattle.field.specs.Octets.{decode16}
 use Rattle.field.specs.Field.{octetAt, numberAt}
-use Rattle.field.specs.declared.Parsed.{Parsed}
-use Rattle.field.specs.declared.Parsed.the-variants.{Refused}
 use Rattle.field.specs.declared.Octet.{Octet}
 use Rattle.field.specs.declared.Octet.the-variants as O
 use Rattle.field.specs.declared.Number.{Number}
@@ -54,7 +52,3 @@ number-missing s at e = go (rw (← e) at (number-is s at))
   where
     go : NumberIs s at N.Missing → length s < at + 2
     go (NumberIs.missing h) = h
-
--- a refused answer determines its number
-pub refused-number : {r : Parsed} {number place number′ place′ : ℕ} → r ≡ Refused number place → r ≡ Refused number′ place′ → number ≡ number′
-refused-number e f = cc

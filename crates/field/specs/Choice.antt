@@ -5,3 +5,7 @@ use mathlib.Core.Bool.{Bool, true, false}
 unfoldable pub pick {ℓ} : {X : Type ℓ} → Bool → X → X → X
 pick true x y = x
 pick false x y = y
+
+-- what comes next where the test is true, and the refusal where it is false: a refusal stands beside its test
+abbrev pub demand {ℓ} : {X : Type ℓ} → Bool → X → X → X
+demand test refusal next = pick test next refusal

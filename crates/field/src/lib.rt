@@ -6,9 +6,9 @@ ghost use lib.Dec.{eqb};
 ghost use Prim.Native.Nat.{_+_, _^_, _≤_, _<_};
 ghost use lib.ListN.{length};
 ghost use Rattle.field.specs.Octets.{encode16, overwriteAt, bytesEqual};
-ghost use Rattle.field.specs.Field.{octetAt, numberAt, movedBy, placeOf};
+ghost use Rattle.field.specs.Field.{faultAt, faultOf, octetSize, octetAt, numberSize, numberAt, movedBy};
 
-// The numbers that a call answers with (01's table). specs/Answer.antt has each with its meaning.
+// The numbers that a call answers with. specs/Answer.antt has each with its meaning.
 pub const DONE: u8 = 0;
 
 pub const IGNORED: u8 = 16;
@@ -41,9 +41,18 @@ pub const NAME_TAKEN: u8 = 13;
 
 pub const UNSOUND: u8 = 14;
 
-// What a reader answers: a refusal's number and the place of the first byte of the field that failed, or how many bytes it took.
+// How many bytes a number has.
+pub const NUMBER_SIZE: usize = 2;
+
+// A refusal: its number, and the place of the first byte of the field that failed.
+pub struct Fault {
+    pub number: u8,
+    pub place: usize,
+}
+
+// What a reader answers: a refusal, or how many bytes it took.
 pub enum Parsed {
-    Refused(u8, usize),
+    Refused(Fault),
     Taken(usize),
 }
 
@@ -78,10 +87,10 @@ pub fn read_u8(s: &[u8], at: usize) -> Octet
 pub fn read_u16(s: &[u8], at: usize) -> Number
     ensures { λ r. ⌜ r ≡ numberAt (now (s .entry)) at ⌝ }
 {
-    if s.len() < 2 {
+    if s.len() < NUMBER_SIZE {
         return Number::Missing;
     }
-    if s.len() - 2 < at {
+    if s.len() - NUMBER_SIZE < at {
         return Number::Missing;
     }
     let high = wide(s[at]);
@@ -89,20 +98,39 @@ pub fn read_u16(s: &[u8], at: usize) -> Number
     Number::There(high * 256 + low)
 }
 
+pub fn fault_at(number: u8, place: usize) -> Fault
+    ensures { λ r. ⌜ r ≡ faultAt number place ⌝ }
+{
+    Fault {
+        number: number,
+        place: place,
+    }
+}
+
+// The refusal of a reader that refused.
+pub fn fault_of(p: Parsed) -> Fault
+    ensures { λ r. ⌜ r ≡ faultOf p ⌝ }
+{
+    match p {
+        Parsed::Refused(fault) => fault,
+        Parsed::Taken(_) => fault_at(DONE, 0),
+    }
+}
+
 // A reader's answer for bytes that begin at `from`, with a refusal's place counted from the start.
 pub fn moved(p: Parsed, from: usize) -> Parsed
-    requires { ⌜ from + placeOf p < 2 ^ 64 ⌝ }
+    requires { ⌜ from + faultOf p .place < 2 ^ 64 ⌝ }
     ensures { λ r. ⌜ r ≡ movedBy from p ⌝ }
 {
     match p {
-        Parsed::Refused(number, place) => Parsed::Refused(number, from + place),
+        Parsed::Refused(fault) => Parsed::Refused(fault_at(fault.number, from + fault.place)),
         Parsed::Taken(n) => Parsed::Taken(n),
     }
 }
 
 // Stores one byte at a place.
 pub fn put_u8(out: &mut [u8], at: usize, x: u8)
-    requires { ⌜ at + 1 ≤ length (now out) ⌝ }
+    requires { ⌜ at + octetSize ≤ length (now out) ⌝ }
     ensures { λ _. ⌜ now (out .exit) ≡ overwriteAt (now (out .entry)) at (x ∷ []) ⌝ }
 {
     out[at] = x;
@@ -110,7 +138,7 @@ pub fn put_u8(out: &mut [u8], at: usize, x: u8)
 
 // Stores two bytes at a place, the higher one first.
 pub fn put_u16(out: &mut [u8], at: usize, x: u16)
-    requires { ⌜ at + 2 ≤ length (now out) ⌝ }
+    requires { ⌜ at + numberSize ≤ length (now out) ⌝ }
     ensures { λ _. ⌜ now (out .exit) ≡ overwriteAt (now (out .entry)) at (encode16 x) ⌝ }
 {
     out[at] = (x / 256) as u8;

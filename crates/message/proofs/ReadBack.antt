@@ -17,7 +17,7 @@ use Rattle.text.proofs.TextLaws.{text-back}
 use Rattle.value.specs.Value.{IsValue}
 use Rattle.value.proofs.ValueLaws.{value-back, value-known, value-small}
 use Rattle.message.specs.Layout.{Entry, Message, keepAlive, hello, unsupported, helloComplete, assignment, update, assignmentBytes, updateBytes, revisionBytes, layout, WellFormed, WellFormedMessage, keepAliveKind, helloKind, unsupportedKind, helloCompleteKind, assignmentKind, updateKind}
-use Rattle.message.specs.Reader.{idAllowed, parseName, parseValueAt, parseAfterName, parseAssignment, parseUpdate, parseRevision, parseMessage, ofAssignment, ofUpdate, takenOf, contents}
+use Rattle.message.specs.Reader.{idAllowed, parseName, parseValueAt, parseBehindId, parseAfterName, parseAssignment, parseUpdate, parseRevision, parseByKind, parseMessage, ofAssignment, ofUpdate, takenOf, contents}
 use Rattle.message.specs.declared.AllowedId.the-variants.{Any}
 use Rattle.message.specs.declared.AssignmentRead.the-variants as A
 use Rattle.message.specs.declared.UpdateRead.the-variants as U
@@ -81,7 +81,7 @@ module _ (id : ℕ) (e : Entry) (rest : List ℕ) where
 after-name-back : (allowed : ℕ → Bool) (at : ℕ) (m : List ℕ) (t id number : ℕ) (value rest : List ℕ) → allowed id ≡ true → IsValue t value
     → at + 5 ≤ length m → drop at m ≡ afterName t id number (value ++ rest)
     → parseAfterName allowed at m ≡ A.Assignment (at - 3) t id number (length value)
-unfolding parseAfterName parseValueAt afterName encode16 pick
+unfolding parseAfterName parseBehindId parseValueAt afterName encode16 pick
 after-name-back allowed at m t id number value rest a w h e =
     let type-is : getD m at 0 ≡ t = ap (λ (k : ℕ). getD m k 0) (sym (add-zero at)) ∙ sym (getD-drop at m 0 0) ∙ ap (λ (l : List ℕ). getD l 0 0) e in
     let id-is : decode16 (drop (at + 1) m) ≡ id = ap decode16 (sym (drop-drop 1 at m) ∙ ap (drop 1) e) ∙ decode-encode id (encode16 number ++ (value ++ rest)) in
@@ -140,28 +140,28 @@ update-back held typeOf id number value rest h w =
 -- the reader's choice by the kind
 
 kind-assignment : (t : ℕ) (s : List ℕ) → parseMessage t (assignmentKind ∷ s) ≡ ofAssignment (parseAssignment (idAllowed Any) (assignmentKind ∷ s))
-unfolding parseMessage pick
+unfolding parseMessage parseByKind pick
 kind-assignment t s = rw (le-leb 1 (suc (length s)) (omega arith))
 
 kind-update : (t : ℕ) (s : List ℕ) → parseMessage t (updateKind ∷ s) ≡ ofUpdate (parseUpdate (idAllowed Any) (λ _. t) (updateKind ∷ s))
-unfolding parseMessage pick
+unfolding parseMessage parseByKind pick
 kind-update t s = rw (le-leb 1 (suc (length s)) (omega arith))
 
 message-keep-alive : (t : ℕ) (s : List ℕ) → parseMessage t (keepAliveKind ∷ s) ≡ D.KeepAlive
-unfolding parseMessage pick
+unfolding parseMessage parseByKind pick
 message-keep-alive t s = rw (le-leb 1 (suc (length s)) (omega arith))
 
 message-hello-complete : (t : ℕ) (s : List ℕ) → parseMessage t (helloCompleteKind ∷ s) ≡ D.HelloComplete
-unfolding parseMessage pick
+unfolding parseMessage parseByKind pick
 message-hello-complete t s = rw (le-leb 1 (suc (length s)) (omega arith))
 
 message-hello : (t revision : ℕ) (rest : List ℕ) → parseMessage t (revisionBytes helloKind revision ++ rest) ≡ D.Hello revision
-unfolding parseMessage parseRevision revisionBytes encode16 pick
+unfolding parseMessage parseByKind parseRevision revisionBytes encode16 pick
 message-hello t revision rest =
     rw (le-leb 1 (suc (suc (suc (length rest)))) (omega arith), le-leb 3 (suc (suc (suc (length rest)))) (omega arith), decode-encode revision rest)
 
 message-unsupported : (t revision : ℕ) (rest : List ℕ) → parseMessage t (revisionBytes unsupportedKind revision ++ rest) ≡ D.Unsupported revision
-unfolding parseMessage parseRevision revisionBytes encode16 pick
+unfolding parseMessage parseByKind parseRevision revisionBytes encode16 pick
 message-unsupported t revision rest =
     rw (le-leb 1 (suc (suc (suc (length rest)))) (omega arith), le-leb 3 (suc (suc (suc (length rest)))) (omega arith), decode-encode revision rest)
 

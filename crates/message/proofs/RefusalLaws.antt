@@ -5,15 +5,17 @@ use Prim.Native.Nat.{ℕ, zero, suc, _+_, _-_, _≤_}
 use native.Mathlib.Omega.{arith}
 use lib.Dec.{eqb}
 use lib.ListN.{length, getD, drop}
-use Rattle.field.specs.Choice.{pick}
+use Rattle.field.specs.Answer.{tooLong}
+use Rattle.field.specs.Choice.{demand}
 use Rattle.field.specs.Octets.{decode16}
-use Rattle.field.specs.Field.{andThen, movedBy}
+use Rattle.field.specs.Field.{faultAt, andThen, movedBy}
+use Rattle.field.specs.declared.Fault.{Fault}
 use Rattle.field.specs.declared.Parsed.{Parsed}
 use Rattle.field.specs.declared.Parsed.the-variants.{Refused, Taken}
 use Rattle.field.proofs.ChoiceLaws.{by-test}
 use Rattle.text.specs.Text.{parseText}
 use Rattle.value.specs.Value.{maxValueSize, parseBoolean, parseDouble, parseElement, elements, parseArray, parseValue, parseLone}
-use Rattle.message.specs.Reader.{parseName, parseValueAt, parseAfterName, parseAssignment, parseUpdate}
+use Rattle.message.specs.Reader.{parseName, parseValueAt, parseBehindId, parseAfterName, parseAssignment, parseUpdate}
 use Rattle.message.specs.declared.AssignmentRead.{AssignmentRead}
 use Rattle.message.specs.declared.AssignmentRead.the-variants as A
 use Rattle.message.specs.declared.UpdateRead.{UpdateRead}
@@ -30,14 +32,14 @@ refusal-number number a b = record { above = a; below = b }
 -- ---- values and names
 
 pub data RefusedRightly : Parsed → Type 0 where
-  refused : {number place : ℕ} → RefusalNumber number → RefusedRightly (Refused number place)
+  refused : {fault : Fault} → RefusalNumber (fault .number) → RefusedRightly (Refused fault)
   taken : {n : ℕ} → RefusedRightly (Taken n)
 
-pub numbered : (number place : ℕ) → 1 ≤ number → number ≤ 14 → RefusedRightly (Refused number place)
+pub numbered : (number place : ℕ) → 1 ≤ number → number ≤ 14 → RefusedRightly (Refused (faultAt number place))
 numbered number place a b = refused (refusal-number number a b)
 
 pub moved-rightly : (at : ℕ) (r : Parsed) → RefusedRightly r → RefusedRightly (movedBy at r)
-moved-rightly at (Refused k p) (refused h) = refused h
+moved-rightly at (Refused fault) (refused h) = refused h
 moved-rightly at (Taken n) f = taken
 
 text-rightly : (maxSize sizeSoFar : ℕ) (s : List ℕ) → RefusedRightly (parseText maxSize sizeSoFar s)
@@ -66,7 +68,7 @@ elements-rightly element h (suc count) size s = go (elements-rightly element h c
   where
     go : ((size : ℕ) (s : List ℕ) → RefusedRightly (elements element count size s)) → (r : Parsed) → RefusedRightly r
         → RefusedRightly (andThen Refused (movedBy size r) (λ n. elements element count (size + n) (drop n s)))
-    go ih (Refused k p) (refused f) = refused f
+    go ih (Refused fault) (refused f) = refused f
     go ih (Taken n) f = ih (size + n) (drop n s)
 
 array-rightly : (element : ℕ) → AllRightly (parseArray element)
@@ -89,28 +91,28 @@ pub lone-rightly : (t : ℕ) (v : List ℕ) → RefusedRightly (parseLone t v)
 unfolding parseLone
 lone-rightly t v = go (parseValue t v) (value-rightly t v)
   where
-    go : (r : Parsed) → RefusedRightly r → RefusedRightly (andThen Refused r (λ n. pick (eqb n (length v)) (Taken n) (Refused 10 n)))
-    go (Refused k p) (refused f) = refused f
+    go : (r : Parsed) → RefusedRightly r → RefusedRightly (andThen Refused r (λ n. demand (eqb n (length v)) (Refused (faultAt tooLong n)) (Taken n)))
+    go (Refused fault) (refused f) = refused f
     go (Taken n) f = by-test RefusedRightly _ _ _ (λ _. taken) (λ _. numbered 10 n (omega arith) (omega arith))
 
 -- ---- messages
 
 pub data AssignmentRefused : AssignmentRead → Type 0 where
-  refused : {number place : ℕ} → RefusalNumber number → AssignmentRefused (A.Refused number place)
+  refused : {fault : Fault} → RefusalNumber (fault .number) → AssignmentRefused (A.Refused fault)
   taken : {n t id q v : ℕ} → AssignmentRefused (A.Assignment n t id q v)
 
 pub data UpdateRefused : UpdateRead → Type 0 where
-  refused : {number place : ℕ} → RefusalNumber number → UpdateRefused (U.Refused number place)
+  refused : {fault : Fault} → RefusalNumber (fault .number) → UpdateRefused (U.Refused fault)
   taken : {id q v : ℕ} → UpdateRefused (U.Update id q v)
 
-numbered-assignment : (number place : ℕ) → 1 ≤ number → number ≤ 14 → AssignmentRefused (A.Refused number place)
+numbered-assignment : (number place : ℕ) → 1 ≤ number → number ≤ 14 → AssignmentRefused (A.Refused (faultAt number place))
 numbered-assignment number place a b = AssignmentRefused.refused (refusal-number number a b)
 
-numbered-update : (number place : ℕ) → 1 ≤ number → number ≤ 14 → UpdateRefused (U.Refused number place)
+numbered-update : (number place : ℕ) → 1 ≤ number → number ≤ 14 → UpdateRefused (U.Refused (faultAt number place))
 numbered-update number place a b = UpdateRefused.refused (refusal-number number a b)
 
 after-name-rightly : (allowed : ℕ → Bool) (at : ℕ) (m : List ℕ) → AssignmentRefused (parseAfterName allowed at m)
-unfolding parseAfterName parseValueAt
+unfolding parseAfterName parseBehindId parseValueAt
 after-name-rightly allowed at m =
     by-test P _ _ _ (λ _. by-test P _ _ _ (λ _. by-test P _ _ _ (λ _. by-test P _ _ _ (λ _. by-test P _ _ _ (λ _.
     go _ (moved-rightly (at + 5) _ (value-rightly (getD m at 0) (drop (at + 5) m))))
@@ -122,7 +124,7 @@ after-name-rightly allowed at m =
     P = AssignmentRefused
 
     go : (r : Parsed) → RefusedRightly r → P (andThen A.Refused r (λ v. A.Assignment (at - 3) (getD m at 0) (decode16 (drop (at + 1) m)) (decode16 (drop (at + 3) m)) v))
-    go (Refused k p) (RefusedRightly.refused f) = AssignmentRefused.refused f
+    go (Refused fault) (RefusedRightly.refused f) = AssignmentRefused.refused f
     go (Taken n) f = AssignmentRefused.taken
 
 pub assignment-rightly : (allowed : ℕ → Bool) (m : List ℕ) → AssignmentRefused (parseAssignment allowed m)
@@ -130,7 +132,7 @@ unfolding parseAssignment parseName
 assignment-rightly allowed m = go _ (moved-rightly 1 _ (text-rightly 66 0 (drop 1 m)))
   where
     go : (r : Parsed) → RefusedRightly r → AssignmentRefused (andThen A.Refused r (λ size. parseAfterName allowed (1 + size) m))
-    go (Refused k p) (RefusedRightly.refused f) = AssignmentRefused.refused f
+    go (Refused fault) (RefusedRightly.refused f) = AssignmentRefused.refused f
     go (Taken n) f = after-name-rightly allowed (1 + n) m
 
 pub update-rightly : (held : ℕ → Bool) (typeOf : ℕ → ℕ) (m : List ℕ) → UpdateRefused (parseUpdate held typeOf m)
@@ -142,5 +144,5 @@ update-rightly held typeOf m =
     (λ _. numbered-update 1 1 (omega arith) (omega arith))
   where
     go : (r : Parsed) → RefusedRightly r → UpdateRefused (andThen U.Refused r (λ v. U.Update (decode16 (drop 1 m)) (decode16 (drop 3 m)) v))
-    go (Refused k p) (RefusedRightly.refused f) = UpdateRefused.refused f
+    go (Refused fault) (RefusedRightly.refused f) = UpdateRefused.refused f
     go (Taken n) f = UpdateRefused.taken

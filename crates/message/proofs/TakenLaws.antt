@@ -9,6 +9,7 @@ use lib.Seq.{drop-drop}
 use borrow.Author.Tests.{leb-true}
 use Rattle.field.specs.Octets.{decode16}
 use Rattle.field.specs.Field.{movedBy, andThen}
+use Rattle.field.specs.declared.Fault.{Fault}
 use Rattle.field.specs.declared.Parsed.{Parsed}
 use Rattle.field.specs.declared.Parsed.the-variants.{Refused, Taken}
 use Rattle.field.proofs.ChoiceLaws.{by-test}
@@ -18,7 +19,7 @@ use Rattle.text.proofs.TextLaws.{TextIs, text-is}
 use Rattle.value.specs.Value.{maxValueSize, parseValue, IsValue}
 use Rattle.value.proofs.ValueLaws.{value-fits, value-small, value-whole}
 use Rattle.message.specs.Layout.{Entry, WellFormed, maxNameLength}
-use Rattle.message.specs.Reader.{parseName, parseValueAt, parseAfterName, parseAssignment, parseUpdate}
+use Rattle.message.specs.Reader.{parseName, parseValueAt, parseBehindId, parseAfterName, parseAssignment, parseUpdate, nameIn, valueIn}
 use Rattle.message.specs.declared.AssignmentRead.{AssignmentRead}
 use Rattle.message.specs.declared.AssignmentRead.the-variants as A
 use Rattle.message.specs.declared.UpdateRead.{UpdateRead}
@@ -29,10 +30,10 @@ use Rattle.message.specs.declared.UpdateRead.the-variants as U
 -- the entry that an assignment's bytes hold, with a number
 abbrev pub cutEntry : List ℕ → (nameLength type number valueLength : ℕ) → Entry
 cutEntry m nameLength type number valueLength =
-    record { name = take nameLength (drop 3 m); type = type; number = number; value = take valueLength (drop (8 + nameLength) m) }
+    record { name = nameIn nameLength m; type = type; number = number; value = valueIn nameLength valueLength m }
 
 pub data AssignmentIs (allowed : ℕ → Bool) (m : List ℕ) : AssignmentRead → Type 0 where
-  refused : {number place : ℕ} → AssignmentIs allowed m (A.Refused number place)
+  refused : {fault : Fault} → AssignmentIs allowed m (A.Refused fault)
   taken : {n t id q v : ℕ} → allowed id ≡ true → 8 + n + v ≤ length m → ((number : ℕ) → WellFormed (cutEntry m n t number v))
       → AssignmentIs allowed m (A.Assignment n t id q v)
 
@@ -48,7 +49,7 @@ value-is allowed m n t id q name a there = go (parseValue t (drop (3 + n + 5) m)
   where
     go : (r : Parsed) → parseValue t (drop (3 + n + 5) m) ≡ r
         → AssignmentIs allowed m (andThen A.Refused (movedBy (3 + n + 5) r) (λ v. A.Assignment n t id q v))
-    go (Refused k p) e = refused
+    go (Refused fault) e = refused
     go (Taken v) e =
         let eight : 3 + n + 5 ≡ 8 + n = omega arith in
         let f : parseValue t (drop (8 + n) m) ≡ Taken v = rw eight at e in
@@ -61,7 +62,7 @@ value-is allowed m n t id q name a there = go (parseValue t (drop (3 + n + 5) m)
         })
 
 after-name-is : (allowed : ℕ → Bool) (m : List ℕ) (n : ℕ) → NameAt m n → AssignmentIs allowed m (parseAfterName allowed (3 + n) m)
-unfolding parseAfterName
+unfolding parseAfterName parseBehindId
 after-name-is allowed m n name =
     let n-is : 3 + n - 3 ≡ n = omega arith in
     rw n-is
@@ -80,7 +81,7 @@ unfolding parseAssignment parseName
 assignment-is allowed m = go (parseText 66 0 (drop 1 m)) (text-is 66 0 (drop 1 m))
   where
     go : (r : Parsed) → TextIs 66 0 (drop 1 m) r → AssignmentIs allowed m (andThen A.Refused (movedBy 1 r) (λ size. parseAfterName allowed (1 + size) m))
-    go (Refused k p) f = refused
+    go (Refused fault) f = refused
     go (Taken k) (TextIs.taken e l h u f) =
         let n = decode16 (drop 1 m) in
         let place : 1 + k ≡ 3 + n = omega arith in
@@ -98,7 +99,7 @@ assignment-taken allowed m n t id q v e = go (rw e at (assignment-is allowed m))
 -- ---- an update
 
 pub data UpdateIs (held : ℕ → Bool) (typeOf : ℕ → ℕ) (m : List ℕ) : UpdateRead → Type 0 where
-  refused : {number place : ℕ} → UpdateIs held typeOf m (U.Refused number place)
+  refused : {fault : Fault} → UpdateIs held typeOf m (U.Refused fault)
   taken : {id q v : ℕ} → held id ≡ true → 5 + v ≤ length m → IsValue (typeOf id) (take v (drop 5 m)) → UpdateIs held typeOf m (U.Update id q v)
 
 pub update-is : (held : ℕ → Bool) (typeOf : ℕ → ℕ) (m : List ℕ) → UpdateIs held typeOf m (parseUpdate held typeOf m)
@@ -112,7 +113,7 @@ update-is held typeOf m =
 
     go : held (decode16 (drop 1 m)) ≡ true → 5 ≤ length m → (r : Parsed) → parseValue (typeOf (decode16 (drop 1 m))) (drop 5 m) ≡ r
         → P (andThen U.Refused (movedBy 5 r) (λ v. U.Update (decode16 (drop 1 m)) (decode16 (drop 3 m)) v))
-    go h l (Refused k p) e = UpdateIs.refused
+    go h l (Refused fault) e = UpdateIs.refused
     go h l (Taken v) e =
         let all-there : 5 + v ≤ length m = omega (arith, value-fits (typeOf (decode16 (drop 1 m))) (drop 5 m) v e, length-drop 5 m) in
         UpdateIs.taken h all-there (value-whole (typeOf (decode16 (drop 1 m))) (drop 5 m) v e)

@@ -1,12 +1,12 @@
 -- Entries, and the six messages as bytes ("Layouts (001)").
-use Prim.Native.Nat.{ℕ, _≤_}
+use Prim.Native.Nat.{ℕ, _+_, _≤_}
 use mathlib.Core.Bool.{true}
 use mathlib.Core.List.{List, [], _∷_, _++_}
 use mathlib.Core.Path.{_≡_}
 use lib.ListN.{length}
 use Rattle.field.specs.Octets.{encode16}
 use Rattle.text.specs.Utf8.{isUtf8}
-use Rattle.value.specs.Value.{IsValue}
+use Rattle.value.specs.Value.{maxValueSize, IsValue}
 
 -- an entry of the table: its value is the encoded bytes, prefix or count included
 pub record Entry : Type 0 where
@@ -37,6 +37,43 @@ updateKind = 0x11
 -- "names of 0 to 64 bytes"
 abbrev pub maxNameLength : ℕ
 maxNameLength = 64
+
+-- how many bytes a kind has, and so where the first field behind it stands
+abbrev pub kindSize : ℕ
+kindSize = 1
+
+-- how many bytes a kind with a "revision (2)" has
+abbrev pub revisionLength : ℕ
+revisionLength = 3
+
+-- where an assignment's name starts: behind its kind and the name's length (2)
+abbrev pub assignmentNameStart : ℕ
+assignmentNameStart = 3
+
+-- "name, type (1), ID (2), number (2), value": where the fields behind a name start, counted from its end
+abbrev pub idBehindName : ℕ
+idBehindName = 1
+
+abbrev pub numberBehindName : ℕ
+numberBehindName = 3
+
+abbrev pub valueBehindName : ℕ
+valueBehindName = 5
+
+-- what an assignment has beside its name and value
+abbrev pub assignmentFixed : ℕ
+assignmentFixed = 8
+
+-- "update: ID (2), number (2), value": where the number and the value start
+abbrev pub updateNumberStart : ℕ
+updateNumberStart = 3
+
+abbrev pub updateValueStart : ℕ
+updateValueStart = 5
+
+-- "The longest assignment is 328 bytes"
+abbrev pub longestAssignment : ℕ
+longestAssignment = assignmentFixed + maxNameLength + maxValueSize
 
 -- "assignment: name, type (1), ID (2), number (2), value"; "Names are laid out as Strings"
 unfoldable pub assignmentBytes : ℕ → Entry → List ℕ

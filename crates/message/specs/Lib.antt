@@ -1,2 +1,3 @@
 pub mod Layout
 pub mod Reader
+pub mod Lent

@@ -1,4 +1,5 @@
 // The reader of one message of Protocol Revision 2.0.
+use field::Fault;
 use field::INCOMPLETE;
 use field::Number;
 use field::Octet;
@@ -6,10 +7,14 @@ use field::Parsed;
 use field::UNKNOWN_KIND;
 use field::UNKNOWN_TYPE;
 use field::WRONG_ID;
+use field::fault_at;
+use field::fault_of;
+use text::PREFIX_SIZE;
 ghost use mathlib.Core.Path.{_≡_};
-ghost use Prim.Native.Nat.{ℕ, _≤_};
+ghost use Prim.Native.Nat.{_+_, _≤_};
 ghost use lib.ListN.{length};
-ghost use Rattle.message.specs.Reader.{idAllowed, parseName, parseValueAt, parseAfterName, parseAssignment, parseUpdate, parseRevision, ofAssignment, ofUpdate, parseMessage};
+ghost use Rattle.message.specs.Layout.{kindSize, assignmentNameStart, numberBehindName};
+ghost use Rattle.message.specs.Reader.{idAllowed, parseName, parseValueAt, parseBehindId, parseAfterName, parseAssignment, parseUpdate, parseRevision, ofAssignment, ofUpdate, parseMessage};
 
 // Kinds of messages.
 pub const KEEP_ALIVE: u8 = 0x00;
@@ -26,6 +31,33 @@ pub const UPDATE: u8 = 0x11;
 
 pub const MAX_NAME_LENGTH: u16 = 64;
 
+// How many bytes a kind has, and so where the first field behind it stands.
+pub const KIND_SIZE: usize = 1;
+
+// How many bytes a kind with a revision has.
+pub const REVISION_LENGTH: usize = 3;
+
+// Where an assignment's name starts, behind its kind and prefix.
+pub const ASSIGNMENT_NAME_START: usize = 3;
+
+// Where an assignment's ID, number and value start, counted from the end of its name: the type stands first.
+pub const ID_BEHIND_NAME: usize = 1;
+
+pub const NUMBER_BEHIND_NAME: usize = 3;
+
+pub const VALUE_BEHIND_NAME: usize = 5;
+
+// How many bytes an assignment has beside its name and value.
+pub const ASSIGNMENT_FIXED: usize = 8;
+
+// How many bytes an assignment has at most: a name of MAX_NAME_LENGTH, and a value of value::MAX_VALUE_SIZE.
+pub const LONGEST_ASSIGNMENT: usize = 328;
+
+// Where an update's number and value start, behind its kind and ID.
+pub const UPDATE_NUMBER_START: usize = 3;
+
+pub const UPDATE_VALUE_START: usize = 5;
+
 // Which IDs an assignment may carry.
 pub enum AllowedId {
     Any,
@@ -33,7 +65,7 @@ pub enum AllowedId {
 }
 
 pub enum AssignmentRead {
-    Refused(u8, usize),
+    Refused(Fault),
     Assignment {
         name_length: usize,
         type_code: u8,
@@ -44,7 +76,7 @@ pub enum AssignmentRead {
 }
 
 pub enum UpdateRead {
-    Refused(u8, usize),
+    Refused(Fault),
     Update {
         id: u16,
         number: u16,
@@ -52,9 +84,9 @@ pub enum UpdateRead {
     },
 }
 
-// A message's fields. A name starts at byte 3, and a value ends with the message.
+// A message's fields. A name starts at ASSIGNMENT_NAME_START, and a value ends with the message.
 pub enum Decoded {
-    Refused(u8, usize),
+    Refused(Fault),
     KeepAlive,
     Hello(u16),
     Unsupported(u16),
@@ -82,32 +114,13 @@ fn id_allowed(allowed: AllowedId, id: u16) -> bool
     }
 }
 
-// The refusal of a field, as that of its message.
-fn refused_assignment(p: Parsed) -> AssignmentRead
-    ensures { λ r. ⌜ ((number place : ℕ) → p ≡ Parsed.Refused number place → r ≡ AssignmentRead.Refused number place) ⌝ }
-{
-    match p {
-        Parsed::Refused(number, place) => AssignmentRead::Refused(number, place),
-        Parsed::Taken(_) => AssignmentRead::Refused(INCOMPLETE, 0),
-    }
-}
-
-fn refused_update(p: Parsed) -> UpdateRead
-    ensures { λ r. ⌜ ((number place : ℕ) → p ≡ Parsed.Refused number place → r ≡ UpdateRead.Refused number place) ⌝ }
-{
-    match p {
-        Parsed::Refused(number, place) => UpdateRead::Refused(number, place),
-        Parsed::Taken(_) => UpdateRead::Refused(INCOMPLETE, 0),
-    }
-}
-
 // The name of an assignment, behind its kind.
 fn read_name(m: &[u8]) -> Parsed
-    requires { ⌜ 1 ≤ length (now m) ⌝ }
+    requires { ⌜ kindSize ≤ length (now m) ⌝ }
     ensures { λ r. ⌜ r ≡ parseName (now (m .entry)) ⌝ }
 {
-    let name = text::read_text(&m[1..], 0, 2 + MAX_NAME_LENGTH);
-    field::moved(name, 1)
+    let name = text::read_text(&m[KIND_SIZE..], 0, (PREFIX_SIZE as u16) + MAX_NAME_LENGTH);
+    field::moved(name, KIND_SIZE)
 }
 
 // A value at a place.
@@ -119,33 +132,20 @@ fn read_value_at(t: u8, m: &[u8], at: usize) -> Parsed
     field::moved(v, at)
 }
 
-// An assignment's fields past its name, which begin at a place.
-fn read_after_name(m: &[u8], at: usize, allowed: AllowedId) -> AssignmentRead
-    requires { ⌜ (3 ≤ at) × (at ≤ length (now m)) ⌝ }
-    ensures { λ r. ⌜ r ≡ parseAfterName (idAllowed allowed) at (now (m .entry)) ⌝ }
+// An assignment's number and value, behind its type and ID; its name ends at a place.
+fn read_behind_id(m: &[u8], at: usize, type_code: u8, id: u16) -> AssignmentRead
+    requires { ⌜ (assignmentNameStart ≤ at) × (at + numberBehindName ≤ length (now m)) ⌝ }
+    ensures { λ r. ⌜ r ≡ parseBehindId at «type_code» id (now (m .entry)) ⌝ }
 {
-    let Octet::There(type_code) = field::read_u8(m, at) else {
-        return AssignmentRead::Refused(INCOMPLETE, at);
-    };
-    if !value::known_type(type_code) {
-        return AssignmentRead::Refused(UNKNOWN_TYPE, at);
-    }
-    let id_at = at + 1;
-    let Number::There(id) = field::read_u16(m, id_at) else {
-        return AssignmentRead::Refused(INCOMPLETE, id_at);
-    };
-    if !id_allowed(allowed, id) {
-        return AssignmentRead::Refused(WRONG_ID, id_at);
-    }
-    let number_at = at + 3;
+    let number_at = at + NUMBER_BEHIND_NAME;
     let Number::There(number) = field::read_u16(m, number_at) else {
-        return AssignmentRead::Refused(INCOMPLETE, number_at);
+        return AssignmentRead::Refused(fault_at(INCOMPLETE, number_at));
     };
-    let v = read_value_at(type_code, m, at + 5);
+    let v = read_value_at(type_code, m, at + VALUE_BEHIND_NAME);
     let Parsed::Taken(value_length) = v else {
-        return refused_assignment(v);
+        return AssignmentRead::Refused(fault_of(v));
     };
-    let name_length = at - 3;
+    let name_length = at - ASSIGNMENT_NAME_START;
     AssignmentRead::Assignment {
         name_length: name_length,
         type_code: type_code,
@@ -155,31 +155,52 @@ fn read_after_name(m: &[u8], at: usize, allowed: AllowedId) -> AssignmentRead
     }
 }
 
+// An assignment's fields past its name, which begin at a place.
+fn read_after_name(m: &[u8], at: usize, allowed: AllowedId) -> AssignmentRead
+    requires { ⌜ (assignmentNameStart ≤ at) × (at ≤ length (now m)) ⌝ }
+    ensures { λ r. ⌜ r ≡ parseAfterName (idAllowed allowed) at (now (m .entry)) ⌝ }
+{
+    let Octet::There(type_code) = field::read_u8(m, at) else {
+        return AssignmentRead::Refused(fault_at(INCOMPLETE, at));
+    };
+    if !value::known_type(type_code) {
+        return AssignmentRead::Refused(fault_at(UNKNOWN_TYPE, at));
+    }
+    let id_at = at + ID_BEHIND_NAME;
+    let Number::There(id) = field::read_u16(m, id_at) else {
+        return AssignmentRead::Refused(fault_at(INCOMPLETE, id_at));
+    };
+    if !id_allowed(allowed, id) {
+        return AssignmentRead::Refused(fault_at(WRONG_ID, id_at));
+    }
+    read_behind_id(m, at, type_code, id)
+}
+
 // An assignment: its kind is the first byte.
 pub fn read_assignment(m: &[u8], allowed: AllowedId) -> AssignmentRead
-    requires { ⌜ 1 ≤ length (now m) ⌝ }
+    requires { ⌜ kindSize ≤ length (now m) ⌝ }
     ensures { λ r. ⌜ r ≡ parseAssignment (idAllowed allowed) (now (m .entry)) ⌝ }
 {
     let name = read_name(m);
     let Parsed::Taken(name_size) = name else {
-        return refused_assignment(name);
+        return AssignmentRead::Refused(fault_of(name));
     };
-    read_after_name(m, 1 + name_size, allowed)
+    read_after_name(m, KIND_SIZE + name_size, allowed)
 }
 
 // An update of any ID, whose type is known: its kind is the first byte.
 pub fn read_update(m: &[u8], type_code: u8) -> UpdateRead
     ensures { λ r. ⌜ r ≡ parseUpdate (idAllowed AllowedId.Any) (λ id. «type_code») (now (m .entry)) ⌝ }
 {
-    let Number::There(id) = field::read_u16(m, 1) else {
-        return UpdateRead::Refused(INCOMPLETE, 1);
+    let Number::There(id) = field::read_u16(m, KIND_SIZE) else {
+        return UpdateRead::Refused(fault_at(INCOMPLETE, KIND_SIZE));
     };
-    let Number::There(number) = field::read_u16(m, 3) else {
-        return UpdateRead::Refused(INCOMPLETE, 3);
+    let Number::There(number) = field::read_u16(m, UPDATE_NUMBER_START) else {
+        return UpdateRead::Refused(fault_at(INCOMPLETE, UPDATE_NUMBER_START));
     };
-    let v = read_value_at(type_code, m, 5);
+    let v = read_value_at(type_code, m, UPDATE_VALUE_START);
     let Parsed::Taken(value_length) = v else {
-        return refused_update(v);
+        return UpdateRead::Refused(fault_of(v));
     };
     UpdateRead::Update {
         id: id,
@@ -192,7 +213,7 @@ fn decoded_assignment(a: AssignmentRead) -> Decoded
     ensures { λ r. ⌜ r ≡ ofAssignment a ⌝ }
 {
     match a {
-        AssignmentRead::Refused(number, place) => Decoded::Refused(number, place),
+        AssignmentRead::Refused(fault) => Decoded::Refused(fault),
         AssignmentRead::Assignment {
             name_length,
             type_code,
@@ -213,7 +234,7 @@ fn decoded_update(u: UpdateRead) -> Decoded
     ensures { λ r. ⌜ r ≡ ofUpdate u ⌝ }
 {
     match u {
-        UpdateRead::Refused(number, place) => Decoded::Refused(number, place),
+        UpdateRead::Refused(fault) => Decoded::Refused(fault),
         UpdateRead::Update {
             id,
             number,
@@ -230,8 +251,8 @@ fn decoded_update(u: UpdateRead) -> Decoded
 fn read_revision(m: &[u8], hello: bool) -> Decoded
     ensures { λ r. ⌜ r ≡ parseRevision hello (now (m .entry)) ⌝ }
 {
-    let Number::There(revision) = field::read_u16(m, 1) else {
-        return Decoded::Refused(INCOMPLETE, 1);
+    let Number::There(revision) = field::read_u16(m, KIND_SIZE) else {
+        return Decoded::Refused(fault_at(INCOMPLETE, KIND_SIZE));
     };
     if hello {
         return Decoded::Hello(revision);
@@ -244,7 +265,7 @@ pub fn read_message(m: &[u8], update_type: u8) -> Decoded
     ensures { λ r. ⌜ r ≡ parseMessage «update_type» (now (m .entry)) ⌝ }
 {
     let Octet::There(kind) = field::read_u8(m, 0) else {
-        return Decoded::Refused(INCOMPLETE, 0);
+        return Decoded::Refused(fault_at(INCOMPLETE, 0));
     };
     match kind {
         KEEP_ALIVE => Decoded::KeepAlive,
@@ -253,6 +274,6 @@ pub fn read_message(m: &[u8], update_type: u8) -> Decoded
         HELLO_COMPLETE => Decoded::HelloComplete,
         ASSIGNMENT => decoded_assignment(read_assignment(m, AllowedId::Any)),
         UPDATE => decoded_update(read_update(m, update_type)),
-        _ => Decoded::Refused(UNKNOWN_KIND, 0),
+        _ => Decoded::Refused(fault_at(UNKNOWN_KIND, 0)),
     }
 }

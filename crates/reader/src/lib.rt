@@ -1,8 +1,10 @@
 // The message with the place reached so far. The functions over it are thin: each takes it apart and calls a covered one.
 use field::Number;
 use field::Octet;
+use message::KIND_SIZE;
 ghost use mathlib.Core.Path.{_≡_};
 ghost use Rattle.field.specs.Field.{octetAt, numberAt};
+ghost use Rattle.message.specs.Layout.{kindSize};
 
 pub struct Reader<'a> {
     pub message: &'a [u8],
@@ -48,7 +50,7 @@ pub fn kind(m: &[u8]) -> Octet
 
 // The two bytes behind the kind: a hello's revision, an update's ID.
 pub fn behind_kind(m: &[u8]) -> Number
-    ensures { λ r. ⌜ r ≡ numberAt (now (m .entry)) 1 ⌝ }
+    ensures { λ r. ⌜ r ≡ numberAt (now (m .entry)) kindSize ⌝ }
 {
-    number(moved(new(m), 1))
+    number(moved(new(m), KIND_SIZE))
 }

@@ -9,6 +9,7 @@ use lib.Seq.{drop-drop}
 use borrow.Author.Tests.{leb-true}
 use Rattle.field.specs.Choice.{pick}
 use Rattle.field.specs.Field.{andThen, movedBy}
+use Rattle.field.specs.declared.Fault.{Fault}
 use Rattle.field.specs.declared.Parsed.{Parsed}
 use Rattle.field.specs.declared.Parsed.the-variants.{Refused, Taken}
 use Rattle.field.proofs.ChoiceLaws.{by-test}
@@ -17,7 +18,7 @@ use Rattle.scalar.specs.Scalar.{equalDouble, equalDoubles}
 
 -- a reader that takes something takes what has a length of at least n
 data Long (n : ℕ) (s : List ℕ) : Parsed → Type 0 where
-  refused : {number place : ℕ} → Long n s (Refused number place)
+  refused : {fault : Fault} → Long n s (Refused fault)
   taken : {k : ℕ} → n ≤ length s → Long n s (Taken k)
 
 long-enough : (n : ℕ) (s : List ℕ) (k : ℕ) → Long n s (Taken k) → n ≤ length s
@@ -33,7 +34,7 @@ boolean-length v e = long-enough 1 v (length v) (rw e at (boolean-long v))
 
 -- a Double takes eight bytes
 data Eight (s : List ℕ) : Parsed → Type 0 where
-  refused : {number place : ℕ} → Eight s (Refused number place)
+  refused : {fault : Fault} → Eight s (Refused fault)
   taken : {k : ℕ} → k ≡ 8 → 8 ≤ length s → Eight s (Taken k)
 
 double-eight : (s : List ℕ) → Eight s (parseDouble s)
@@ -53,12 +54,12 @@ doubles-long zero size s = taken (omega arith)
 doubles-long (suc count) size s = go (doubles-long count) (parseDouble s) (double-eight s)
   where
     after : (r : Parsed) → 8 ≤ length s → Long (8 * count) (drop 8 s) r → Long (8 * suc count) s r
-    after (Refused k p) h l = refused
+    after (Refused fault) h l = refused
     after (Taken k) h (taken l) = taken (omega (arith, length-drop 8 s))
 
     go : ((size : ℕ) (s : List ℕ) → Long (8 * count) s (elements (parseElement 1) count size s)) → (r : Parsed) → Eight s r
         → Long (8 * suc count) s (andThen Refused (movedBy size r) (λ n. elements (parseElement 1) count (size + n) (drop n s)))
-    go ih (Refused k p) e = refused
+    go ih (Refused fault) e = refused
     go ih (Taken k) (Eight.taken a b) = rw a (after (elements (parseElement 1) count (size + 8) (drop 8 s)) b (ih (size + 8) (drop 8 s)))
 
 array-long : (s : List ℕ) → Long (1 + 8 * getD s 0 0) s (parseArray 1 s)
@@ -69,7 +70,7 @@ array-long s = by-test P _ _ _ (λ h. by-test P _ _ _ (λ _. go (leb-true _ _ h)
     P = Long (1 + 8 * getD s 0 0) s
 
     go : 1 ≤ length s → (r : Parsed) → Long (8 * getD s 0 0) (drop 1 s) r → Long (1 + 8 * getD s 0 0) s r
-    go h (Refused k p) l = refused
+    go h (Refused fault) l = refused
     go h (Taken k) (taken l) = taken (omega (arith, length-drop 1 s))
 
 pub double-array-length : (v : List ℕ) → IsValue 0x11 v → 1 + 8 * getD v 0 0 ≤ length v

@@ -8,7 +8,7 @@ use lib.Ieee as Ieee
 use lib.Ieee.{Float, binary64, ofBits}
 use Rattle.field.specs.Choice.{pick}
 use Rattle.field.specs.Octets.{decode16, bytesEqual}
-use Rattle.value.specs.Value.{boolean, double, arrayOf, doubleSize}
+use Rattle.value.specs.Value.{boolean, double, doubleArray, trueByte, doubleSize, countSize}
 use Rattle.scalar.specs.declared.Scalar as D
 use Rattle.scalar.specs.declared.Scalar.the-variants.{Boolean, Double, Neither}
 
@@ -23,7 +23,7 @@ doubleOf s = ofBits binary64 (decode64 s)
 -- "a Boolean, a Double as a number, or neither where it is text or an array"
 unfoldable pub scalarOf : ℕ → List ℕ → D.Scalar
 scalarOf type value =
-    pick (eqb type boolean) (Boolean (eqb (getD value 0 0) 1)) (pick (eqb type double) (Double (doubleOf value)) Neither)
+    pick (eqb type boolean) (Boolean (eqb (getD value 0 0) trueByte)) (pick (eqb type double) (Double (doubleOf value)) Neither)
 
 -- "Two Doubles are equal when the language's comparison says so"
 unfoldable pub equalDouble : List ℕ → List ℕ → Bool
@@ -38,5 +38,6 @@ equalDoubles (suc count) v w = equalDouble v w && equalDoubles count (drop doubl
 unfoldable pub equalValues : ℕ → List ℕ → List ℕ → Bool
 equalValues type v w =
     pick (eqb type double) (equalDouble v w)
-    (pick (eqb type (arrayOf + double)) (eqb (getD v 0 0) (getD w 0 0) && equalDoubles (getD v 0 0) (drop 1 v) (drop 1 w))
+    (pick (eqb type doubleArray)
+    (eqb (getD v 0 0) (getD w 0 0) && equalDoubles (getD v 0 0) (drop countSize v) (drop countSize w))
     (bytesEqual v w))

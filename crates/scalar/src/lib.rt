@@ -1,11 +1,22 @@
 // Doubles as numbers: the scalar that a value is, and when two values are equal.
+use value::BOOLEAN;
+use value::COUNT_SIZE;
+use value::DOUBLE;
+use value::DOUBLE_ARRAY;
+use value::DOUBLE_SIZE;
+use value::TRUE;
 ghost use mathlib.Core.Path.{_≡_};
 ghost use Prim.Native.Nat.{_+_, _*_, _≤_};
 ghost use lib.ListN.{length, drop, getD};
 ghost use lib.Ieee as Ieee;
 ghost use lib.Ieee.{binary64, ofBits};
-ghost use Rattle.value.specs.Value.{IsValue};
+ghost use Rattle.value.specs.Value.{doubleSize, countSize, IsValue};
 ghost use Rattle.scalar.specs.Scalar.{decode64, scalarOf, equalDouble, equalDoubles, equalValues};
+
+// A Double's pattern: its sign, and the pattern of an infinity. A pattern that is above it beside its sign is a NaN's.
+const SIGN: u64 = 9223372036854775808;
+
+const INFINITY: u64 = 9218868437227405312;
 
 // What reading an entry answers.
 pub enum Scalar {
@@ -23,8 +34,11 @@ fn wide(x: u8) -> u64
 
 fn read_u32(s: &[u8], at: usize) -> u64
     requires { ⌜ at + 4 ≤ length (now s) ⌝ }
-    ensures { λ r. ⌜ r ≡ getD (now (s .entry)) at 0 * 16777216 + getD (now (s .entry)) (at + 1) 0 * 65536 + getD (now (s .entry)) (at + 2) 0 * 256 + getD (now (s .entry)) (at + 3) 0 ⌝ }
-    ensures { λ r. ⌜ r ≤ 4294967295 ⌝ }
+    ensures number { λ r.
+        ⌜ r
+        ≡ getD (now (s .entry)) at 0 * 16777216 + getD (now (s .entry)) (at + 1) 0 * 65536
+        + getD (now (s .entry)) (at + 2) 0 * 256 + getD (now (s .entry)) (at + 3) 0 ⌝ }
+    ensures small { λ r. ⌜ r ≤ 4294967295 ⌝ }
 {
     let a = wide(s[at]);
     let b = wide(s[at + 1]);
@@ -35,7 +49,7 @@ fn read_u32(s: &[u8], at: usize) -> u64
 
 // The number of the first eight bytes, the highest one first.
 fn read_u64(s: &[u8]) -> u64
-    requires { ⌜ 8 ≤ length (now s) ⌝ }
+    requires { ⌜ doubleSize ≤ length (now s) ⌝ }
     ensures { λ r. ⌜ r ≡ decode64 (now (s .entry)) ⌝ }
 {
     let high = read_u32(s, 0);
@@ -47,7 +61,7 @@ fn read_u64(s: &[u8]) -> u64
 fn double_of(n: u64) -> f64
     ensures { λ r. ⌜ r ≡ ofBits binary64 n ⌝ }
 {
-    if 9218868437227405312 < n % 9223372036854775808 {
+    if INFINITY < n % SIGN {
         return 0.0 / 0.0;
     }
     f64::from_bits(n)
@@ -58,17 +72,18 @@ pub fn scalar_of(type_code: u16, value: &[u8]) -> Scalar
     requires { ⌜ IsValue «type_code» (now value) ⌝ }
     ensures { λ r. ⌜ r ≡ scalarOf «type_code» (now (value .entry)) ⌝ }
 {
-    if type_code == 0 {
-        return Scalar::Boolean(value[0] == 1);
+    if type_code == (BOOLEAN as u16) {
+        let flag = value[0];
+        return Scalar::Boolean(flag == TRUE);
     }
-    if type_code == 1 {
+    if type_code == (DOUBLE as u16) {
         return Scalar::Double(double_of(read_u64(value)));
     }
     Scalar::Neither
 }
 
 fn same_double(v: &[u8], w: &[u8]) -> bool
-    requires { ⌜ (8 ≤ length (now v)) × (8 ≤ length (now w)) ⌝ }
+    requires { ⌜ (doubleSize ≤ length (now v)) × (doubleSize ≤ length (now w)) ⌝ }
     ensures { λ r. ⌜ r ≡ equalDouble (now (v .entry)) (now (w .entry)) ⌝ }
 {
     let x = double_of(read_u64(v));
@@ -78,16 +93,16 @@ fn same_double(v: &[u8], w: &[u8]) -> bool
 
 // So many Doubles, behind an array's count.
 fn same_doubles(count: u8, v: &[u8], w: &[u8]) -> bool
-    requires { ⌜ (1 + 8 * count ≤ length (now v)) × (1 + 8 * count ≤ length (now w)) ⌝ }
-    ensures { λ r. ⌜ r ≡ equalDoubles count (drop 1 (now (v .entry))) (drop 1 (now (w .entry))) ⌝ }
+    requires { ⌜ (countSize + doubleSize * count ≤ length (now v)) × (countSize + doubleSize * count ≤ length (now w)) ⌝ }
+    ensures { λ r. ⌜ r ≡ equalDoubles count (drop countSize (now (v .entry))) (drop countSize (now (w .entry))) ⌝ }
 {
     let mut left = count;
-    let mut at: usize = 1;
+    let mut at = COUNT_SIZE;
     while 0 < left {
         if !same_double(&v[at..], &w[at..]) {
             return false;
         }
-        at += 8;
+        at += DOUBLE_SIZE;
         left -= 1;
     }
     true
@@ -98,10 +113,10 @@ pub fn same_value(type_code: u16, v: &[u8], w: &[u8]) -> bool
     requires { ⌜ IsValue «type_code» (now v) × IsValue «type_code» (now w) ⌝ }
     ensures { λ r. ⌜ r ≡ equalValues «type_code» (now (v .entry)) (now (w .entry)) ⌝ }
 {
-    if type_code == 1 {
+    if type_code == (DOUBLE as u16) {
         return same_double(v, w);
     }
-    if type_code == 0x11 {
+    if type_code == (DOUBLE_ARRAY as u16) {
         if v[0] != w[0] {
             return false;
         }

@@ -9,9 +9,10 @@ use lib.Seq.{take-append-seam}
 use lib.Dec.{leb}
 use borrow.Author.Tests.{leb-true, le-leb}
 use Rattle.field.specs.Answer.{incomplete, notUtf8, tooLong}
-use Rattle.field.specs.Choice.{pick}
+use Rattle.field.specs.Choice.{pick, demand}
 use Rattle.field.specs.Octets.{decode16, encode16}
-use Rattle.field.specs.Field.{placeOf}
+use Rattle.field.specs.Field.{faultAt, faultOf, demandBytes}
+use Rattle.field.specs.declared.Fault.{Fault}
 use Rattle.field.specs.declared.Parsed.{Parsed}
 use Rattle.field.specs.declared.Parsed.the-variants.{Refused, Taken}
 use Rattle.field.proofs.ChoiceLaws.{by-test}
@@ -22,14 +23,15 @@ use Rattle.text.specs.Text.{parseText}
 -- what a reader has checked once its prefix is there
 pub after-prefix : (maxSize sizeSoFar n : ℕ) (s : List ℕ) → 2 ≤ length s → n ≡ decode16 s
     → parseText maxSize sizeSoFar s
-    ≡ pick (leb (sizeSoFar + (2 + n)) maxSize) (pick (leb (2 + n) (length s)) (pick (isUtf8 (take n (drop 2 s))) (Taken (2 + n)) (Refused notUtf8 2)) (Refused incomplete 2)) (Refused tooLong 0)
+    ≡ demand (leb (sizeSoFar + (2 + n)) maxSize) (Refused (faultAt tooLong 0))
+    (demandBytes (2 + n) s (Refused (faultAt incomplete 2)) (demand (isUtf8 (take n (drop 2 s))) (Refused (faultAt notUtf8 2)) (Taken (2 + n))))
 unfolding parseText pick
 after-prefix maxSize sizeSoFar n s h e = rw (le-leb 2 (length s) h, ← e)
 
 -- ---- what is known of a text that was read
 
 pub data TextIs (maxSize sizeSoFar : ℕ) (s : List ℕ) : Parsed → Type 0 where
-  refused : {number place : ℕ} → place ≤ length s → TextIs maxSize sizeSoFar s (Refused number place)
+  refused : {fault : Fault} → fault .place ≤ length s → TextIs maxSize sizeSoFar s (Refused fault)
   taken : {n : ℕ} → n ≡ 2 + decode16 s → n ≤ length s → sizeSoFar + n ≤ maxSize → isUtf8 (take (decode16 s) (drop 2 s)) ≡ true
       → ((t : List ℕ) → take n t ≡ take n s → parseText maxSize sizeSoFar t ≡ Taken n) → TextIs maxSize sizeSoFar s (Taken n)
 
@@ -61,9 +63,9 @@ text-back maxSize name rest h u =
       u,
     )
 
-pub text-place : (maxSize sizeSoFar : ℕ) (s : List ℕ) → placeOf (parseText maxSize sizeSoFar s) ≤ length s
+pub text-place : (maxSize sizeSoFar : ℕ) (s : List ℕ) → faultOf (parseText maxSize sizeSoFar s) .place ≤ length s
 text-place maxSize sizeSoFar s = go (parseText maxSize sizeSoFar s) (text-is maxSize sizeSoFar s)
   where
-    go : (r : Parsed) → TextIs maxSize sizeSoFar s r → placeOf r ≤ length s
-    go (Refused k p) (refused h) = h
+    go : (r : Parsed) → TextIs maxSize sizeSoFar s r → faultOf r .place ≤ length s
+    go (Refused fault) (refused h) = h
     go (Taken n) t = omega arith

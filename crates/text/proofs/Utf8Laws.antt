@@ -1,4 +1,4 @@
--- Laws of UTF-8 that a loop over the bytes cites, and the texts that 01 marks.
+-- Laws of UTF-8 that a loop over the bytes cites, and the marked texts.
 use mathlib.Core.Path.{_≡_, refl}
 use mathlib.Core.Bool.{true, false}
 use mathlib.Core.List.{List, [], _∷_, map}

@@ -1,12 +1,12 @@
 -- A text behind its length: "String, length (2) and UTF-8", "Names are laid out as Strings".
 use Prim.Native.Nat.{ℕ, _+_}
 use mathlib.Core.List.{List}
-use lib.ListN.{length, take, drop}
+use lib.ListN.{take, drop}
 use lib.Dec.{leb}
 use Rattle.field.specs.Answer.{incomplete, notUtf8, tooLong}
-use Rattle.field.specs.Choice.{pick}
+use Rattle.field.specs.Choice.{demand}
 use Rattle.field.specs.Octets.{decode16}
-use Rattle.field.specs.Field.{whenThere}
+use Rattle.field.specs.Field.{faultAt, demandBytes}
 use Rattle.field.specs.declared.Parsed.{Parsed}
 use Rattle.field.specs.declared.Parsed.the-variants.{Refused, Taken}
 use Rattle.text.specs.Utf8.{isUtf8}
@@ -19,10 +19,8 @@ prefixSize = 2
 -- sizeSoFar bytes came before the prefix, and all together may be maxSize.
 unfoldable pub parseText : ℕ → ℕ → List ℕ → Parsed
 parseText maxSize sizeSoFar s =
-    whenThere prefixSize s
-    (pick (leb (sizeSoFar + (prefixSize + decode16 s)) maxSize)
-    (whenThere (prefixSize + decode16 s) s
-    (pick (isUtf8 (take (decode16 s) (drop prefixSize s))) (Taken (prefixSize + decode16 s)) (Refused notUtf8 prefixSize))
-    (Refused incomplete prefixSize))
-    (Refused tooLong 0))
-    (Refused incomplete 0)
+    demandBytes prefixSize s (Refused (faultAt incomplete 0))
+    (demand (leb (sizeSoFar + (prefixSize + decode16 s)) maxSize) (Refused (faultAt tooLong 0))
+    (demandBytes (prefixSize + decode16 s) s (Refused (faultAt incomplete prefixSize))
+    (demand (isUtf8 (take (decode16 s) (drop prefixSize s))) (Refused (faultAt notUtf8 prefixSize))
+    (Taken (prefixSize + decode16 s)))))

@@ -4,11 +4,15 @@ use field::NOT_UTF8;
 use field::Number;
 use field::Parsed;
 use field::TOO_LONG;
+use field::fault_at;
 ghost use mathlib.Core.Path.{_≡_};
 ghost use mathlib.Core.Bool.{true};
 ghost use Prim.Native.Nat.{_≤_};
 ghost use Rattle.text.specs.Utf8.{afterFirst, afterByte, isBoundary, isUtf8};
 ghost use Rattle.text.specs.Text.{parseText};
+
+// How many bytes a length prefix has.
+pub const PREFIX_SIZE: usize = 2;
 
 // What may come next: a character or the end; a byte from the first to the second number, and then so many tail bytes more; nothing.
 pub enum Expected {
@@ -132,18 +136,18 @@ pub fn read_text(s: &[u8], size_so_far: u16, max_size: u16) -> Parsed
     ensures { λ r. ⌜ r ≡ parseText «max_size» «size_so_far» (now (s .entry)) ⌝ }
 {
     let Number::There(n) = field::read_u16(s, 0) else {
-        return Parsed::Refused(INCOMPLETE, 0);
+        return Parsed::Refused(fault_at(INCOMPLETE, 0));
     };
-    let end = 2 + (n as usize);
+    let end = PREFIX_SIZE + (n as usize);
     let size = (size_so_far as usize) + end;
     if (max_size as usize) < size {
-        return Parsed::Refused(TOO_LONG, 0);
+        return Parsed::Refused(fault_at(TOO_LONG, 0));
     }
     if s.len() < end {
-        return Parsed::Refused(INCOMPLETE, 2);
+        return Parsed::Refused(fault_at(INCOMPLETE, PREFIX_SIZE));
     }
-    if is_utf8(&s[2..end]) {
+    if is_utf8(&s[PREFIX_SIZE..end]) {
         return Parsed::Taken(end);
     }
-    Parsed::Refused(NOT_UTF8, 2)
+    Parsed::Refused(fault_at(NOT_UTF8, PREFIX_SIZE))
 }

@@ -9,7 +9,8 @@ use lib.Seq.{drop-drop}
 use lib.Dec.{leb, eqb}
 use borrow.Author.Tests.{leb-true, le-leb}
 use Rattle.field.specs.Choice.{pick}
-use Rattle.field.specs.Field.{andThen, movedBy}
+use Rattle.field.specs.Field.{faultAt, andThen, movedBy}
+use Rattle.field.specs.declared.Fault.{Fault}
 use Rattle.field.specs.declared.Parsed.{Parsed}
 use Rattle.field.specs.declared.Parsed.the-variants.{Refused, Taken}
 use Rattle.field.proofs.ChoiceLaws.{by-test}
@@ -21,15 +22,15 @@ use Rattle.value.specs.Value.{maxValueSize, countFits, parseBoolean, par
 -- what is known of a reader's answer: a refusal stands within the bytes; what is taken is there,
 -- at most `most` bytes, and is taken wherever the same bytes stand first
 pub data Reads (read : List ℕ → Parsed) (most : ℕ) (s : List ℕ) : Parsed → Type 0 where
-  refused : {number place : ℕ} → place ≤ length s → Reads read most s (Refused number place)
+  refused : {fault : Fault} → fault .place ≤ length s → Reads read most s (Refused fault)
   taken : {n : ℕ} → n ≤ length s → n ≤ most → ((t : List ℕ) → take n t ≡ take n s → read t ≡ Taken n) → Reads read most s (Taken n)
 
 pub reads-taken : (read : List ℕ → Parsed) (most : ℕ) (s : List ℕ) (n : ℕ) → Reads read most s (Taken n)
     → (n ≤ length s) × (n ≤ most) × ((t : List ℕ) → take n t ≡ take n s → read t ≡ Taken n)
 reads-taken read most s n (taken a b f) = (a, b, f)
 
-pub reads-refused : (read : List ℕ → Parsed) (most : ℕ) (s : List ℕ) (k p : ℕ) → Reads read most s (Refused k p) → p ≤ length s
-reads-refused read most s k p (refused h) = h
+pub reads-refused : (read : List ℕ → Parsed) (most : ℕ) (s : List ℕ) (fault : Fault) → Reads read most s (Refused fault) → fault .place ≤ length s
+reads-refused read most s fault (refused h) = h
 
 pub boolean-reads : (s : List ℕ) → Reads parseBoolean 1 s (parseBoolean s)
 unfolding parseBoolean pick
@@ -52,11 +53,11 @@ pub string-reads : (sizeSoFar : ℕ) (s : List ℕ) → Reads (parseText maxValu
 string-reads sizeSoFar s = go (parseText maxValueSize sizeSoFar s) (text-is maxValueSize sizeSoFar s)
   where
     go : (r : Parsed) → TextIs maxValueSize sizeSoFar s r → Reads (parseText maxValueSize sizeSoFar) (maxValueSize - sizeSoFar) s r
-    go (Refused k p) (TextIs.refused h) = refused h
+    go (Refused fault) (TextIs.refused h) = refused h
     go (Taken n) (TextIs.taken e a b u f) = taken a (omega arith) f
 
 pub widen : (read : List ℕ → Parsed) (a b : ℕ) (s : List ℕ) (r : Parsed) → a ≤ b → Reads read a s r → Reads read b s r
-widen read a b s (Refused k p) h (refused x) = refused x
+widen read a b s (Refused fault) h (refused x) = refused x
 widen read a b s (Taken n) h (taken x y f) = taken x (omega arith) f
 
 abbrev pub AllReads : ℕ → (List ℕ → Parsed) → Type 0
@@ -84,11 +85,11 @@ unfolding elements
 elements-step element zero at n s h e = absurd (omega arith)
 elements-step element (suc count) at n s h e = let l : suc count - 1 ≡ count = omega arith in rw (← e, l, drop-drop n at s)
 
-pub elements-stop : (element : ℕ → List ℕ → Parsed) (count at k p : ℕ) (s : List ℕ) → 0 < count → Refused k p ≡ element at s
-    → elements element count at s ≡ Refused k (at + p)
+pub elements-stop : (element : ℕ → List ℕ → Parsed) (count at : ℕ) (fault : Fault) (s : List ℕ) → 0 < count → Refused fault ≡ element at s
+    → elements element count at s ≡ movedBy at (Refused fault)
 unfolding elements
-elements-stop element zero at k p s h e = absurd (omega arith)
-elements-stop element (suc count) at k p s h e = rw (← e)
+elements-stop element zero at fault s h e = absurd (omega arith)
+elements-stop element (suc count) at fault s h e = rw (← e)
 
 pub elements-none : (element : ℕ → List ℕ → Parsed) (count at : ℕ) (s : List ℕ) → count ≤ 0 → elements element count at s ≡ Taken at
 unfolding elements
@@ -98,7 +99,7 @@ elements-none element (suc count) at s h = absurd (omega arith)
 -- ---- what is known of a run's answer, where sizeSoFar bytes came before it
 
 pub data RunReads (element : ℕ → List ℕ → Parsed) (count sizeSoFar : ℕ) (s : List ℕ) : Parsed → Type 0 where
-  refused : {number place : ℕ} → place ≤ sizeSoFar + length s → RunReads element count sizeSoFar s (Refused number place)
+  refused : {fault : Fault} → fault .place ≤ sizeSoFar + length s → RunReads element count sizeSoFar s (Refused fault)
   taken : {n : ℕ} (m : ℕ) → n ≡ sizeSoFar + m → m ≤ length s → ((t : List ℕ) → take m t ≡ take m s → elements element count sizeSoFar t ≡ Taken n)
       → RunReads element count sizeSoFar s (Taken n)
 
@@ -114,9 +115,9 @@ run-reads element most h (suc count) sizeSoFar s = go (run-reads element most h 
 
     after : (n : ℕ) → Reads (element sizeSoFar) (most sizeSoFar) s (Taken n) → (r : Parsed) → RunReads element count (sizeSoFar + n) (drop n s) r
         → RunReads element (suc count) sizeSoFar s r
-    after n f (Refused k p) (RunReads.refused g) =
+    after n f (Refused fault) (RunReads.refused g) =
         let w = reads-taken (element sizeSoFar) (most sizeSoFar) s n f in
-        RunReads.refused {place = p} (omega (arith, w .0, length-drop n s))
+        RunReads.refused {fault = fault} (omega (arith, w .0, length-drop n s))
     after n f (Taken k) (RunReads.taken m e l g) =
         let w = reads-taken (element sizeSoFar) (most sizeSoFar) s n f in
         RunReads.taken {n = k} (n + m) (omega arith) (omega (arith, w .0, length-drop n s))
@@ -124,13 +125,13 @@ run-reads element most h (suc count) sizeSoFar s = go (run-reads element most h 
 
     go : Rest → (r : Parsed) → Reads (element sizeSoFar) (most sizeSoFar) s r
         → RunReads element (suc count) sizeSoFar s (andThen Refused (movedBy sizeSoFar r) (λ n. elements element count (sizeSoFar + n) (drop n s)))
-    go ih (Refused k p) (Reads.refused f) = RunReads.refused {place = sizeSoFar + p} (omega arith)
+    go ih (Refused fault) (Reads.refused f) = RunReads.refused {fault = faultAt (fault .number) (sizeSoFar + fault .place)} (omega arith)
     go ih (Taken n) f = after n f (elements element count (sizeSoFar + n) (drop n s)) (ih (sizeSoFar + n) (drop n s))
 
 -- ---- and has at most 256 bytes
 
 pub data AtMost (most : ℕ) : Parsed → Type 0 where
-  refused : {number place : ℕ} → AtMost most (Refused number place)
+  refused : {fault : Fault} → AtMost most (Refused fault)
   taken : {n : ℕ} → n ≤ most → AtMost most (Taken n)
 
 -- where each element leaves what has to hold of the count and size that are left
@@ -143,7 +144,7 @@ run-most element Ok h0 h1 (suc count) size s o = go (run-most element Ok h0 h1 c
   where
     go : ((size : ℕ) (s : List ℕ) → Ok count size → AtMost maxValueSize (elements element count size s)) → (r : Parsed) → element size s ≡ r
         → AtMost maxValueSize (andThen Refused (movedBy size r) (λ n. elements element count (size + n) (drop n s)))
-    go ih (Refused k p) e = AtMost.refused
+    go ih (Refused fault) e = AtMost.refused
     go ih (Taken n) e = ih (size + n) (drop n s) (h1 count size n s o e)
 
 pub array-most : (element count : ℕ) (s : List ℕ) → countFits element count ≡ true → AtMost maxValueSize (elements (parseElement element) count 1 s)

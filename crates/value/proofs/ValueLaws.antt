@@ -10,8 +10,10 @@ use lib.ListN.{length, take, drop, getD, length-drop}
 use lib.Seq.{take-length, take-take, take-append-seam, length-take-le}
 use lib.Dec.{leb, eqb}
 use borrow.Author.Tests.{leb-true, le-leb, lt-leb, eqb-true, eq-eqb}
-use Rattle.field.specs.Choice.{pick}
-use Rattle.field.specs.Field.{andThen, placeOf}
+use Rattle.field.specs.Answer.{tooLong}
+use Rattle.field.specs.Choice.{pick, demand}
+use Rattle.field.specs.Field.{faultAt, faultOf, andThen}
+use Rattle.field.specs.declared.Fault.{Fault}
 use Rattle.field.specs.declared.Parsed.{Parsed}
 use Rattle.field.specs.declared.Parsed.the-variants.{Refused, Taken}
 use Rattle.field.proofs.ChoiceLaws.{by-test}
@@ -51,7 +53,7 @@ element-known t h = rw h
 
 -- a value is taken of a known type only
 data TakenOf (t : ℕ) : Parsed → Type 0 where
-  refused : {number place : ℕ} → TakenOf t (Refused number place)
+  refused : {fault : Fault} → TakenOf t (Refused fault)
   taken : {n : ℕ} → knownType t ≡ true → TakenOf t (Taken n)
 
 pub value-known : (t : ℕ) (s : List ℕ) (n : ℕ) → parseValue t s ≡ Taken n → knownType t ≡ true
@@ -59,7 +61,7 @@ unfolding parseValue
 value-known t s n e = known (Taken n) (rw e at of-known) refl
   where
     any : knownType t ≡ true → (r : Parsed) → TakenOf t r
-    any k (Refused number place) = TakenOf.refused
+    any k (Refused fault) = TakenOf.refused
     any k (Taken n) = TakenOf.taken k
 
     of-known : TakenOf t (parseValue t s)
@@ -68,7 +70,7 @@ value-known t s n e = known (Taken n) (rw e at of-known) refl
         by-test (λ (read : List ℕ → Parsed). TakenOf t (read s)) (knownType t) _ _ (λ k. any k _) (λ _. TakenOf.refused))
 
     known : (r : Parsed) → TakenOf t r → r ≡ Taken n → knownType t ≡ true
-    known (Refused number place) f q = let z : _≡_ {A = ℕ} 0 1 = cc in absurd (omega arith)
+    known (Refused fault) f q = let z : _≡_ {A = ℕ} 0 1 = cc in absurd (omega arith)
     known (Taken m) (TakenOf.taken k) q = k
 
 -- ---- an array
@@ -88,7 +90,7 @@ array-reads element s =
 
     go : 1 ≤ length s → countFits element (getD s 0 0) ≡ true → (r : Parsed) → RunReads (parseElement element) (getD s 0 0) 1 (drop 1 s) r → AtMost maxValueSize r
         → Reads (parseArray element) maxValueSize s r
-    go h f (Refused k p) (RunReads.refused g) w = Reads.refused {place = p} (omega (arith, length-drop 1 s))
+    go h f (Refused fault) (RunReads.refused g) w = Reads.refused {fault = fault} (omega (arith, length-drop 1 s))
     go h f (Taken n) (RunReads.taken m e l g) (AtMost.taken w) =
         Reads.taken {n = n} (omega (arith, length-drop 1 s)) w (λ t q.
         let l1 : n ≤ length t = same-length n s t q (omega (arith, length-drop 1 s)) in
@@ -129,11 +131,11 @@ module _ (t : ℕ) (s : List ℕ) (n : ℕ) (e : parseValue t s ≡ Taken n) whe
   pub value-whole : IsValue t (take n s)
   value-whole = facts .2 (take n s) (take-take n n s (le-refl n)) ∙ ap Taken (sym (length-take-le n s (facts .0)))
 
-pub value-place : (t : ℕ) (s : List ℕ) → placeOf (parseValue t s) ≤ length s
+pub value-place : (t : ℕ) (s : List ℕ) → faultOf (parseValue t s) .place ≤ length s
 value-place t s = go (parseValue t s) (value-reads t s)
   where
-    go : (r : Parsed) → Reads (parseValue t) maxValueSize s r → placeOf r ≤ length s
-    go (Refused k p) r = reads-refused (parseValue t) maxValueSize s k p r
+    go : (r : Parsed) → Reads (parseValue t) maxValueSize s r → faultOf r .place ≤ length s
+    go (Refused fault) r = reads-refused (parseValue t) maxValueSize s fault r
     go (Taken n) r = omega arith
 
 -- reading back a value, whatever stands behind it
@@ -147,13 +149,13 @@ unfolding parseLone pick
 lone-taken t v w = rw (w, eq-eqb (length v) (length v) refl)
 
 pub data LoneIs (t : ℕ) (v : List ℕ) : Parsed → Type 0 where
-  refused : {number place : ℕ} → LoneIs t v (Refused number place)
+  refused : {fault : Fault} → LoneIs t v (Refused fault)
   taken : {n : ℕ} → n ≡ length v → IsValue t v → LoneIs t v (Taken n)
 
 pub lone-is : (t : ℕ) (v : List ℕ) → LoneIs t v (parseLone t v)
 unfolding parseLone
 lone-is t v = go (parseValue t v) refl
   where
-    go : (r : Parsed) → parseValue t v ≡ r → LoneIs t v (andThen Refused r (λ n. pick (eqb n (length v)) (Taken n) (Refused 10 n)))
-    go (Refused k p) e = LoneIs.refused
+    go : (r : Parsed) → parseValue t v ≡ r → LoneIs t v (andThen Refused r (λ n. demand (eqb n (length v)) (Refused (faultAt tooLong n)) (Taken n)))
+    go (Refused fault) e = LoneIs.refused
     go (Taken n) e = by-test (LoneIs t v) _ _ _ (λ q. LoneIs.taken (eqb-true _ _ q) (e ∙ ap Taken (eqb-true _ _ q))) (λ _. LoneIs.refused)

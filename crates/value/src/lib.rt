@@ -5,10 +5,11 @@ use field::Octet;
 use field::Parsed;
 use field::TOO_LONG;
 use field::UNKNOWN_TYPE;
+use field::fault_at;
 ghost use mathlib.Core.Path.{_≡_};
 ghost use Prim.Native.Nat.{_≤_};
 ghost use lib.ListN.{length, drop};
-ghost use Rattle.value.specs.Value.{knownType, parseBoolean, parseDouble, parseElement, countFits, elements, parseArray, parseValue, parseLone};
+ghost use Rattle.value.specs.Value.{knownType, parseBoolean, parseDouble, parseElement, countSize, countFits, elements, parseArray, parseValue, parseLone};
 
 // Types: a Boolean, a Double, a String, and arrays of these.
 pub const BOOLEAN: u8 = 0x00;
@@ -23,10 +24,18 @@ pub const DOUBLE_ARRAY: u8 = 0x11;
 
 pub const STRING_ARRAY: u8 = 0x12;
 
+// A Boolean's byte is 0, or this.
+pub const TRUE: u8 = 1;
+
 // How many bytes an encoded value may have, its prefix or count included.
 pub const MAX_VALUE_SIZE: u16 = 256;
 
+// How many bytes a Boolean, a Double and an array's count have.
+pub const BOOLEAN_SIZE: usize = 1;
+
 pub const DOUBLE_SIZE: usize = 8;
+
+pub const COUNT_SIZE: usize = 1;
 
 pub fn known_type(t: u8) -> bool
     ensures { λ r. ⌜ r ≡ knownType t ⌝ }
@@ -44,19 +53,19 @@ fn read_boolean(s: &[u8]) -> Parsed
     ensures { λ r. ⌜ r ≡ parseBoolean (now (s .entry)) ⌝ }
 {
     let Octet::There(b) = field::read_u8(s, 0) else {
-        return Parsed::Refused(INCOMPLETE, 0);
+        return Parsed::Refused(fault_at(INCOMPLETE, 0));
     };
-    if 1 < b {
-        return Parsed::Refused(BAD_BOOLEAN, 0);
+    if TRUE < b {
+        return Parsed::Refused(fault_at(BAD_BOOLEAN, 0));
     }
-    Parsed::Taken(1)
+    Parsed::Taken(BOOLEAN_SIZE)
 }
 
 fn read_double(s: &[u8]) -> Parsed
     ensures { λ r. ⌜ r ≡ parseDouble (now (s .entry)) ⌝ }
 {
     if s.len() < DOUBLE_SIZE {
-        return Parsed::Refused(INCOMPLETE, 0);
+        return Parsed::Refused(fault_at(INCOMPLETE, 0));
     }
     Parsed::Taken(DOUBLE_SIZE)
 }
@@ -82,17 +91,17 @@ fn count_fits(element: u8, count: u8) -> bool
         return true;
     }
     if element == DOUBLE {
-        return 1 + 8 * (count as u16) <= MAX_VALUE_SIZE;
+        return COUNT_SIZE + DOUBLE_SIZE * (count as usize) <= (MAX_VALUE_SIZE as usize);
     }
     true
 }
 
 // So many elements, behind an array's count.
 fn read_elements(element: u8, count: u8, s: &[u8]) -> Parsed
-    requires { ⌜ 1 ≤ length (now s) ⌝ }
-    ensures { λ r. ⌜ r ≡ elements (parseElement element) count 1 (drop 1 (now (s .entry))) ⌝ }
+    requires { ⌜ countSize ≤ length (now s) ⌝ }
+    ensures { λ r. ⌜ r ≡ elements (parseElement element) count countSize (drop countSize (now (s .entry))) ⌝ }
 {
-    let mut at: usize = 1;
+    let mut at = COUNT_SIZE;
     let mut left = count;
     while 0 < left {
         let one = read_element(element, at as u16, &s[at..]);
@@ -109,23 +118,33 @@ fn read_array(element: u8, s: &[u8]) -> Parsed
     ensures { λ r. ⌜ r ≡ parseArray element (now (s .entry)) ⌝ }
 {
     let Octet::There(count) = field::read_u8(s, 0) else {
-        return Parsed::Refused(INCOMPLETE, 0);
+        return Parsed::Refused(fault_at(INCOMPLETE, 0));
     };
     if !count_fits(element, count) {
-        return Parsed::Refused(TOO_LONG, 0);
+        return Parsed::Refused(fault_at(TOO_LONG, 0));
     }
     read_elements(element, count, s)
 }
 
-// The value of a type at the start of the bytes. They go on as a part of themselves (DECISIONS 43).
+// A reader's answer, handed on in its parts: copied whole, it goes through memory in pieces that overlap, and the processor waits.
+fn in_parts(p: Parsed) -> Parsed
+    ensures { λ r. ⌜ r ≡ p ⌝ }
+{
+    match p {
+        Parsed::Refused(fault) => Parsed::Refused(fault_at(fault.number, fault.place)),
+        Parsed::Taken(n) => Parsed::Taken(n),
+    }
+}
+
+// The value of a type at the start of the bytes.
 pub fn read_value(t: u8, s: &[u8]) -> Parsed
     ensures { λ r. ⌜ r ≡ parseValue t (now (s .entry)) ⌝ }
 {
     if t <= STRING {
-        return read_element(t, 0, &s[0..]);
+        return in_parts(read_element(t, 0, &s[0..]));
     }
     if !known_type(t) {
-        return Parsed::Refused(UNKNOWN_TYPE, 0);
+        return Parsed::Refused(fault_at(UNKNOWN_TYPE, 0));
     }
     read_array(t - BOOLEAN_ARRAY, s)
 }
@@ -139,7 +158,7 @@ pub fn read_lone(t: u8, s: &[u8]) -> Parsed
         return value;
     };
     if n != s.len() {
-        return Parsed::Refused(TOO_LONG, n);
+        return Parsed::Refused(fault_at(TOO_LONG, n));
     }
     Parsed::Taken(n)
 }

@@ -1,7 +1,7 @@
 -- Laws of the checks, and of what is answered and written for them.
 use mathlib.Core.Path.{_≡_, refl, ap, _∙_}
 use mathlib.Core.Bool.{true, false}
-use mathlib.Core.List.{List, [], _∷_, _++_, append-assoc}
+use mathlib.Core.List.{List}
 use Prim.Native.Nat.{ℕ, _+_, _≤_, _<_}
 use native.Mathlib.Omega.{arith}
 use lib.ListN.{length}
@@ -9,23 +9,24 @@ use lib.Dec.{leb}
 use borrow.Author.Tests.{leb-true, le-leb, lt-leb}
 use Rattle.field.specs.Answer.{outputTooShort}
 use Rattle.field.specs.Choice.{pick}
-use Rattle.field.specs.Octets.{encode16, overwriteAt}
+use Rattle.field.specs.Octets.{overwriteAt}
+use Rattle.field.specs.Field.{faultAt, andThen}
+use Rattle.field.specs.declared.Fault.{Fault}
 use Rattle.field.specs.declared.Parsed.{Parsed}
 use Rattle.field.specs.declared.Parsed.the-variants.{Refused, Taken}
 use Rattle.field.proofs.ChoiceLaws.{by-test}
 use Rattle.text.specs.Utf8.{isUtf8}
 use Rattle.value.specs.Value.{parseLone}
 use Rattle.value.proofs.ValueLaws.{LoneIs, lone-is, value-small}
-use Rattle.message.specs.Layout.{Entry, Message, keepAlive, hello, unsupported, helloComplete, assignment, update, layout, keepAliveKind, helloKind, unsupportedKind, helloCompleteKind, assignmentKind, updateKind, assignmentBytes, WellFormed, WellFormedMessage}
+use Rattle.message.specs.Layout.{Entry, Message, keepAlive, hello, unsupported, helloComplete, assignment, update, layout, keepAliveKind, helloKind, unsupportedKind, helloCompleteKind, assignmentKind, updateKind, WellFormed, WellFormedMessage}
 use Rattle.message.proofs.ReadBack.{length-assignment, length-update}
-use Rattle.writer.specs.Writer.{Fields, checkName, Checked, checkedBy, checkAssignment, checkUpdate, check, neededFor, bytesOf, Ready, ready, answerOf, outputOf}
+use Rattle.writer.specs.Writer.{Fields, entryOf, checkName, Checked, checkAssignment, checkUpdate, checkByKind, check, neededFor, bytesOf, Ready, ready, answerOf, outputOf}
 use Rattle.writer.specs.declared.Encoded.the-variants as E
-use Rattle.writer.specs.declared.Needed.the-variants as N
 
 -- ---- a name and a value
 
 pub data NameIs (name : List ℕ) : Parsed → Type 0 where
-  refused : {number place : ℕ} → NameIs name (Refused number place)
+  refused : {fault : Fault} → NameIs name (Refused fault)
   taken : {n : ℕ} → n ≡ length name → length name ≤ 64 → isUtf8 name ≡ true → NameIs name (Taken n)
 
 pub name-is : (name : List ℕ) → NameIs name (checkName name)
@@ -45,18 +46,11 @@ lone-taken-is t v n e = go (rw e at (lone-is t v))
     go : LoneIs t v (Taken n) → (n ≡ length v) × (n ≤ 256)
     go (LoneIs.taken a w) = (a, omega (arith, value-small t v (length v) w))
 
--- ---- an assignment's bytes, as they are stored one field behind the other
-
-pub assignment-parts : (id : ℕ) (e : Entry)
-    → ((((((assignmentKind ∷ []) ++ encode16 (length (e .name))) ++ e .name) ++ (e .type ∷ [])) ++ encode16 id) ++ encode16 (e .number)) ++ e .value ≡ assignmentBytes id e
-unfolding assignmentBytes
-assignment-parts id e = simp append-assoc
-
 -- ---- what the checks allow
 
 -- the message is the one that the fields of its kind make, and obeys the rules
 pub data CheckIs (t : ℕ) : Message → Checked → Type 0 where
-  refused : {x : Message} {number : ℕ} → CheckIs t x (Checked.refused number)
+  refused : {x : Message} {fault : Fault} → CheckIs t x (Checked.refused fault)
   allowed : {x : Message} → WellFormedMessage t x → CheckIs t x (Checked.allowed x)
 
 pub assignment-check : (t id : ℕ) (e : Entry) → CheckIs t (assignment id e) (checkAssignment id e)
@@ -64,47 +58,44 @@ unfolding checkAssignment
 assignment-check t id e = go (checkName (e .name)) (name-is (e .name)) (parseLone (e .type) (e .value)) (lone-is (e .type) (e .value))
   where
     go : (p : Parsed) → NameIs (e .name) p → (q : Parsed) → LoneIs (e .type) (e .value) q
-        → CheckIs t (assignment id e) (checkedBy p (checkedBy q (Checked.allowed (assignment id e))))
-    go (Refused k p) f q g = CheckIs.refused
-    go (Taken n) f (Refused k p) g = CheckIs.refused
+        → CheckIs t (assignment id e) (andThen Checked.refused p (λ _. andThen Checked.refused q (λ _. Checked.allowed (assignment id e))))
+    go (Refused fault) f q g = CheckIs.refused
+    go (Taken n) f (Refused fault) g = CheckIs.refused
     go (Taken n) (NameIs.taken a b u) (Taken v) (LoneIs.taken l w) = CheckIs.allowed {x = assignment id e} (record { name-fits = b; name-text = u; value-whole = w })
 
 pub update-check : (id number t : ℕ) (v : List ℕ) → CheckIs t (update id number v) (checkUpdate id number t v)
 unfolding checkUpdate
 update-check id number t v = go (parseLone t v) (lone-is t v)
   where
-    go : (q : Parsed) → LoneIs t v q → CheckIs t (update id number v) (checkedBy q (Checked.allowed (update id number v)))
-    go (Refused k p) g = CheckIs.refused
+    go : (q : Parsed) → LoneIs t v q → CheckIs t (update id number v) (andThen Checked.refused q (λ _. Checked.allowed (update id number v)))
+    go (Refused fault) g = CheckIs.refused
     go (Taken n) (LoneIs.taken l w) = CheckIs.allowed w
 
 -- ---- the choice by the kind
 
-abbrev pub entryOf : Fields → Entry
-entryOf f = record { name = f .name; type = f .type; number = f .number; value = f .value }
-
 module _ (f : Fields) where
   pub check-keep-alive : f .kind ≡ keepAliveKind → check f ≡ Checked.allowed keepAlive
-  unfolding check pick
+  unfolding checkByKind pick
   check-keep-alive k = rw k
 
   pub check-hello : f .kind ≡ helloKind → check f ≡ Checked.allowed (hello (f .revision))
-  unfolding check pick
+  unfolding checkByKind pick
   check-hello k = rw k
 
   pub check-unsupported : f .kind ≡ unsupportedKind → check f ≡ Checked.allowed (unsupported (f .revision))
-  unfolding check pick
+  unfolding checkByKind pick
   check-unsupported k = rw k
 
   pub check-hello-complete : f .kind ≡ helloCompleteKind → check f ≡ Checked.allowed helloComplete
-  unfolding check pick
+  unfolding checkByKind pick
   check-hello-complete k = rw k
 
   kind-assignment : f .kind ≡ assignmentKind → check f ≡ checkAssignment (f .id) (entryOf f)
-  unfolding check pick
+  unfolding checkByKind pick
   kind-assignment k = rw k
 
   kind-update : f .kind ≡ updateKind → check f ≡ checkUpdate (f .id) (f .number) (f .type) (f .value)
-  unfolding check pick
+  unfolding checkByKind pick
   kind-update k = rw k
 
 -- ---- a message that is ready to be written
@@ -140,29 +131,29 @@ module _ (f : Fields) (room : ℕ) (r : Ready room (check f)) where
 -- ---- the answer and the output, by what the message needs
 
 module _ (c : Checked) (out : List ℕ) where
-  pub needs-refused : (k : ℕ) → N.Refused k ≡ neededFor c → (E.Refused k ≡ answerOf c out) × (out ≡ outputOf c out)
-  needs-refused k e = go c e
+  pub needs-refused : (fault : Fault) → Refused fault ≡ neededFor c → (E.Refused fault ≡ answerOf c out) × (out ≡ outputOf c out)
+  needs-refused fault e = go c e
     where
-      go : (c : Checked) → N.Refused k ≡ neededFor c → (E.Refused k ≡ answerOf c out) × (out ≡ outputOf c out)
-      go (Checked.refused number) q = let k-is : k ≡ number = cc in (ap E.Refused k-is, refl)
+      go : (c : Checked) → Refused fault ≡ neededFor c → (E.Refused fault ≡ answerOf c out) × (out ≡ outputOf c out)
+      go (Checked.refused other) q = let same : fault ≡ other = cc in (ap E.Refused same, refl)
       go (Checked.allowed m) q = let z : _≡_ {A = ℕ} 0 1 = cc in absurd (omega arith)
 
-  pub needs-more : (n : ℕ) → N.Bytes n ≡ neededFor c → length out < n → (E.Refused outputTooShort ≡ answerOf c out) × (out ≡ outputOf c out)
+  pub needs-more : (n : ℕ) → Taken n ≡ neededFor c → length out < n → (E.Refused (faultAt outputTooShort 0) ≡ answerOf c out) × (out ≡ outputOf c out)
   unfolding pick
   needs-more n e h = go c e
     where
-      go : (c : Checked) → N.Bytes n ≡ neededFor c → (E.Refused outputTooShort ≡ answerOf c out) × (out ≡ outputOf c out)
-      go (Checked.refused number) q = let z : _≡_ {A = ℕ} 0 1 = cc in absurd (omega arith)
+      go : (c : Checked) → Taken n ≡ neededFor c → (E.Refused (faultAt outputTooShort 0) ≡ answerOf c out) × (out ≡ outputOf c out)
+      go (Checked.refused fault) q = let z : _≡_ {A = ℕ} 0 1 = cc in absurd (omega arith)
       go (Checked.allowed m) q =
           let n-is : n ≡ length (layout m) = cc in
           let short : leb (length (layout m)) (length out) ≡ false = lt-leb (length (layout m)) (length out) (omega arith) in
           (rw short, rw short)
 
-  pub needs-room : (n : ℕ) → N.Bytes n ≡ neededFor c → n ≤ length out → Ready (length out) c
+  pub needs-room : (n : ℕ) → Taken n ≡ neededFor c → n ≤ length out → Ready (length out) c
   needs-room n e h = go c e
     where
-      go : (c : Checked) → N.Bytes n ≡ neededFor c → Ready (length out) c
-      go (Checked.refused number) q = let z : _≡_ {A = ℕ} 0 1 = cc in absurd (omega arith)
+      go : (c : Checked) → Taken n ≡ neededFor c → Ready (length out) c
+      go (Checked.refused fault) q = let z : _≡_ {A = ℕ} 0 1 = cc in absurd (omega arith)
       go (Checked.allowed m) q = let n-is : n ≡ length (layout m) = cc in ready {m = m} (omega arith)
 
   -- n bytes are sent, and the output afterwards is `after`

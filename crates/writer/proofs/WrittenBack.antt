@@ -8,15 +8,18 @@ use native.Mathlib.Omega.{arith}
 use lib.ListN.{length, drop, getD}
 use lib.Dec.{leb}
 use borrow.Author.Tests.{eqb-true, leb-true}
-use Rattle.field.specs.Choice.{pick}
+use Rattle.field.specs.Answer.{outputTooShort}
+use Rattle.field.specs.Field.{faultAt}
+use Rattle.field.specs.declared.Fault.{Fault}
+use Rattle.field.specs.Choice.{pick, demand}
 use Rattle.field.specs.Octets.{overwriteAt}
 use Rattle.field.proofs.ChoiceLaws.{by-test}
 use Rattle.field.proofs.OverwriteLaws.{overwrite-eq}
 use Rattle.message.specs.Layout.{Message, keepAlive, hello, unsupported, helloComplete, assignment, update, layout, assignmentBytes, updateBytes, revisionBytes, updateKind, WellFormedMessage}
 use Rattle.message.proofs.ReadBack.{ReadsAs, read-back, same-bytes}
-use Rattle.writer.specs.Writer.{Fields, Checked, check, answerOf, outputOf}
+use Rattle.writer.specs.Writer.{Fields, entryOf, Checked, checkByKind, check, answerOf, outputOf}
 use Rattle.writer.specs.declared.Encoded.the-variants as E
-use Rattle.writer.proofs.WriterLaws.{CheckIs, entryOf, assignment-check, update-check}
+use Rattle.writer.proofs.WriterLaws.{CheckIs, assignment-check, update-check}
 
 -- a message begins with its kind
 unfoldable pub kindOf : Message → ℕ
@@ -24,15 +27,15 @@ kindOf x = getD (layout x) 0 0
 
 -- what is known of the message that is allowed: it obeys the rules and is of the kind that was given
 data AllowedIs (f : Fields) : Checked → Type 0 where
-  refused : {number : ℕ} → AllowedIs f (Checked.refused number)
+  refused : {fault : Fault} → AllowedIs f (Checked.refused fault)
   allowed : {x : Message} → WellFormedMessage (f .type) x → kindOf x ≡ f .kind → AllowedIs f (Checked.allowed x)
 
 of-check : (f : Fields) (x : Message) (c : Checked) → kindOf x ≡ f .kind → CheckIs (f .type) x c → AllowedIs f c
-of-check f x (Checked.refused number) k CheckIs.refused = AllowedIs.refused
+of-check f x (Checked.refused fault) k CheckIs.refused = AllowedIs.refused
 of-check f x (Checked.allowed y) k (CheckIs.allowed w) = AllowedIs.allowed w k
 
 allowed-is : (f : Fields) → AllowedIs f (check f)
-unfolding check kindOf layout assignmentBytes updateBytes revisionBytes
+unfolding checkByKind kindOf layout assignmentBytes updateBytes revisionBytes
 allowed-is f =
     by-test P _ _ _ (λ k. AllowedIs.allowed {x = keepAlive} tt (sym (eqb-true _ _ k))) (λ _.
     by-test P _ _ _ (λ k. AllowedIs.allowed {x = hello (f .revision)} tt (sym (eqb-true _ _ k))) (λ _.
@@ -69,7 +72,7 @@ unfolding pick
 sent-back f out n e = go (check f) refl e
   where
     fitted : (x : Message) → check f ≡ Checked.allowed x → (room : Bool) → leb (length (layout x)) (length out) ≡ room
-        → pick room (E.Sent (length (layout x))) (E.Refused 12) ≡ E.Sent n
+        → demand room (E.Refused (faultAt outputTooShort 0)) (E.Sent (length (layout x))) ≡ E.Sent n
         → (y : Message) × (Checked.allowed x ≡ Checked.allowed y) × (n ≡ length (layout y)) × ReadsAs (f .type) y (pick room (overwriteAt out 0 (layout x)) out)
     fitted x c true h q =
         let l : 0 + length (layout x) ≤ length out = omega (arith, leb-true (length (layout x)) (length out) h) in

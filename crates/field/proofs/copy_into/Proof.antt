@@ -1,3 +1,4 @@
+-- `copy_into` stores all of src. The loop's invariant: the first j bytes are stored, and the output keeps its length.
 use mathlib.Core.Path.{_≡_, refl}
 use Prim.Native.Nat.{_-_, _≤_}
 use native.Mathlib.Omega.{arith}

@@ -1,3 +1,4 @@
+-- `read_u16` answers `numberAt`: both tests of the length come to one, at + 2 ≤ length, by omega.
 use Prim.Native.Nat.{_+_}
 use native.Mathlib.Omega.{arith}
 use lib.ListN.{length}

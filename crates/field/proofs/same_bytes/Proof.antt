@@ -1,3 +1,4 @@
+-- `same_bytes` answers `bytesEqual`. The loop's invariant: what was compared, and what is left, come to the whole comparison.
 use mathlib.Core.Path.{_≡_, refl, sym, _∙_}
 use mathlib.Core.Bool.{_&&_, and-true}
 use Prim.Native.Nat.{_≤_, _-_}

@@ -1,3 +1,4 @@
+-- `read_assignment` answers `parseAssignment`: the name's answer is told, and a name that was taken has its bytes (`name-taken`).
 use mathlib.Core.Path.{sym, _∙_}
 use native.Mathlib.Omega.{arith}
 use Rattle.message.specs.Reader.{parseAssignment}
@@ -15,14 +16,14 @@ enum-known-name c = search needs
 enum-told : tie.Need-enum-told
 enum-told c = search needs
 
-refused-assignment-requires : tie.Need-refused-assignment-requires
-refused-assignment-requires c κs = search needs
+fault-of-requires : tie.Need-fault-of-requires
+fault-of-requires c κs = search needs
 
 returns : tie.Need-returns
 unfolding parseAssignment
 returns c =
     let e = c .before .enum-told .given in
-    rw (← (c .before .before .before .read-name .ensures), e .1) (c .refused-assignment .ensures (e .0 .0) (e .0 .1 .0) (e .1))
+    rw (c .fault-of .ensures, ← (c .before .before .before .read-name .ensures), e .1)
 
 add-read-after-name : tie.Need-add-read-after-name
 add-read-after-name c =
@@ -48,7 +49,7 @@ read-assignment-spec =
     read-name-requires
     enum-known-name
     enum-told
-    refused-assignment-requires
+    fault-of-requires
     returns
     add-read-after-name
     read-after-name-requires

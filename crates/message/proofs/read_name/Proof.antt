@@ -1,3 +1,4 @@
+-- `read_name` answers `parseName`: the part behind the kind is the rest of the message, and a refusal's place stays within it.
 use mathlib.Core.Path.{_≡_, ap, _∙_}
 use native.Mathlib.Omega.{arith}
 use lib.ListN.{drop, length-drop}
@@ -21,6 +22,9 @@ part-read-text-start c = search needs
 part-read-text-end : tie.Need-part-read-text-end
 part-read-text-end c = search needs
 
+cast-read-text : tie.Need-cast-read-text
+cast-read-text c = search needs
+
 add-read-text : tie.Need-add-read-text
 add-read-text c = search needs
 
@@ -43,6 +47,7 @@ read-name-spec =
     sub-read-text
     part-read-text-start
     part-read-text-end
+    cast-read-text
     add-read-text
     read-text-requires
     moved-requires

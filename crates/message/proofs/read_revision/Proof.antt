@@ -1,3 +1,4 @@
+-- `read_revision` answers `parseRevision`: the number that is there is the definition's, and each return has its tests rewritten.
 use mathlib.Core.Path.{_≡_, sym, _∙_}
 use Prim.Native.Nat.{_≤_}
 use native.Mathlib.Omega.{arith}
@@ -23,12 +24,16 @@ enum-known-revision c = search needs
 enum-told : tie.Need-enum-told
 enum-told c = search needs
 
+fault-at-requires : tie.Need-fault-at-requires
+fault-at-requires c κs = search needs
+
 returns : tie.Need-returns
 unfolding parseRevision pick
-returns c =
+returns d =
+    let c = d .before in
     let m = c .before .before .before .before .args .m .now in
     let l = number-missing m 1 (sym (c .enum-told .given .1) ∙ c .before .before .read-u16 .ensures) in
-    rw (lt-leb 3 (length m) (omega arith))
+    rw (d .fault-at .ensures, lt-leb 3 (length m) (omega arith))
 
 returns-2 : tie.Need-returns-2
 unfolding parseRevision pick
@@ -45,4 +50,4 @@ returns-3 c =
 pub read-revision-spec : {M : Type 1} → statement M
 read-revision-spec =
     tie.close
-    (tie.spec read-u16-requires enum-known-revision enum-told returns returns-2 returns-3)
+    (tie.spec read-u16-requires enum-known-revision enum-told fault-at-requires returns returns-2 returns-3)

@@ -1,3 +1,4 @@
+-- `read_update` answers `parseUpdate`: ID and number that are there are the definition's, and the value's answer is told.
 use mathlib.Core.Path.{_≡_, sym, _∙_}
 use Prim.Native.Nat.{_≤_}
 use native.Mathlib.Omega.{arith}
@@ -30,12 +31,16 @@ enum-known-id c = search needs
 enum-told : tie.Need-enum-told
 enum-told c = search needs
 
+fault-at-requires : tie.Need-fault-at-requires
+fault-at-requires c κs = search needs
+
 returns : tie.Need-returns
 unfolding parseUpdate pick
-returns c =
+returns d =
+    let c = d .before in
     let m = c .before .before .before .before .args .m .now in
     let l = number-missing m 1 (sym (c .enum-told .given .1) ∙ c .before .before .read-u16 .ensures) in
-    rw (lt-leb 3 (length m) (omega arith))
+    rw (d .fault-at .ensures, lt-leb 3 (length m) (omega arith))
 
 read-u16-requires-2 : tie.Need-read-u16-requires-2
 read-u16-requires-2 c κs = search needs
@@ -46,13 +51,17 @@ enum-known-number c = search needs
 enum-told-2 : tie.Need-enum-told-2
 enum-told-2 c = search needs
 
+fault-at-requires-2 : tie.Need-fault-at-requires-2
+fault-at-requires-2 c κs = search needs
+
 returns-2 : tie.Need-returns-2
 unfolding parseUpdate pick
-returns-2 c =
+returns-2 d =
+    let c = d .before in
     let i = c .before .before .before .before in
     let m = i .before .before .before .before .args .m .now in
     let l = number-missing m 3 (sym (c .enum-told2 .given .1) ∙ c .before .before .read-u162 .ensures) in
-    rw (le-leb 3 (length m) (id-there i .0), lt-leb 5 (length m) (omega arith))
+    rw (d .fault-at2 .ensures, le-leb 3 (length m) (id-there i .0), lt-leb 5 (length m) (omega arith))
 
 read-value-at-requires : tie.Need-read-value-at-requires
 unfolding to-id
@@ -64,8 +73,8 @@ enum-known-v c = search needs
 enum-told-3 : tie.Need-enum-told-3
 enum-told-3 c = search needs
 
-refused-update-requires : tie.Need-refused-update-requires
-refused-update-requires c κs = search needs
+fault-of-requires : tie.Need-fault-of-requires
+fault-of-requires c κs = search needs
 
 returns-3 : tie.Need-returns-3
 unfolding parseUpdate pick to-id
@@ -74,7 +83,7 @@ returns-3 c =
     let n = v .before .before in
     let m = to-id n .before .before .before .before .args .m .now in
     let e = c .before .enum-told3 .given in
-    rw (le-leb 3 (length m) (id-there (to-id n) .0), le-leb 5 (length m) (number-is n .0), ← (v .read-value-at .ensures), e .1) (c .refused-update .ensures (e .0 .0) (e .0 .1 .0) (e .1))
+    rw (c .fault-of .ensures, le-leb 3 (length m) (id-there (to-id n) .0), le-leb 5 (length m) (number-is n .0), ← (v .read-value-at .ensures), e .1)
 
 returns-4 : tie.Need-returns-4
 unfolding parseUpdate pick to-id
@@ -91,14 +100,16 @@ read-update-spec =
     read-u16-requires
     enum-known-id
     enum-told
+    fault-at-requires
     returns
     read-u16-requires-2
     enum-known-number
     enum-told-2
+    fault-at-requires-2
     returns-2
     read-value-at-requires
     enum-known-v
     enum-told-3
-    refused-update-requires
+    fault-of-requires
     returns-3
     returns-4)

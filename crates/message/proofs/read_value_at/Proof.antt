@@ -1,3 +1,4 @@
+-- `read_value_at` answers `parseValueAt`: the part from the place on is the rest of the message, and a refusal's place stays within it.
 use mathlib.Core.Path.{_≡_, ap, _∙_}
 use native.Mathlib.Omega.{arith}
 use lib.ListN.{drop, length-drop}

@@ -1,3 +1,4 @@
+-- `same_doubles` answers `equalDoubles`. The loop's invariant: what is left to compare comes to the whole, and its bytes are there.
 use mathlib.Core.Path.{_≡_, refl, sym, ap₂, _∙_}
 use Prim.Native.Nat.{_+_, _-_, _*_, _≤_}
 use native.Mathlib.Omega.{arith}

@@ -1,3 +1,4 @@
+-- `same_value` answers `equalValues`: the lengths come from the type (`ShapeLaws`), and the tests of the type are rewritten.
 use Prim.Native.Nat.{_≤_, _+_, _*_}
 use native.Mathlib.Omega.{arith}
 use lib.ListN.{length, getD}
@@ -16,6 +17,9 @@ arrays c =
     let s = c .before .before .before .before in
     (double-array-length (s .args .v .now) (rw (c .if2 .taken) at (s .pre .0)), double-array-length (s .args .w .now) (rw (c .if2 .taken) at (s .pre .1)))
 
+cast-if1 : tie.Need-cast-if1
+cast-if1 c = search needs
+
 same-double-requires : tie.Need-same-double-requires
 same-double-requires c κs =
     let s = c .before .before .before in
@@ -24,6 +28,9 @@ same-double-requires c κs =
 returns : tie.Need-returns
 unfolding equalValues pick
 returns c = rw (eq-eqb _ _ (c .before .if1 .taken)) (c .same-double .ensures)
+
+cast-if2 : tie.Need-cast-if2
+cast-if2 c = search needs
 
 shared-slice-read-if3 : tie.Need-shared-slice-read-if3
 shared-slice-read-if3 c = omega (arith, arrays (c .before) .0)
@@ -58,8 +65,10 @@ pub same-value-spec : {M : Type 1} → statement M
 same-value-spec =
     tie.close
     (tie.spec
+    cast-if1
     same-double-requires
     returns
+    cast-if2
     shared-slice-read-if3
     shared-slice-read-if3-2
     returns-2

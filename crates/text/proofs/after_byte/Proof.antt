@@ -1,3 +1,4 @@
+-- `after_byte` answers `afterByte`: each case of what was expected is told, and each test turned into the definition's.
 use borrow.Author.Tests.{le-leb, lt-leb, eq-eqb, ne-eqb}
 use Rattle.field.specs.Choice.{pick}
 use Rattle.text.specs.Utf8.{afterByte}

@@ -1,3 +1,4 @@
+-- `after_first` answers `afterFirst`: the tests of a row are those of the rows above, failed, and its own.
 use borrow.Author.Tests.{le-leb, lt-leb}
 use native.Mathlib.Omega.{arith}
 use Rattle.field.specs.Choice.{pick}

@@ -1,3 +1,4 @@
+-- `is_ascii` is true of UTF-8 only. The loop's invariant: no byte passed is above `most`; bytes below 0x80 are UTF-8 by a law.
 use mathlib.Core.Path.{_≡_}
 use Prim.Native.Nat.{ℕ, suc, _+_, _-_, _≤_, _<_}
 use native.Mathlib.Decide.{decLe}

@@ -1,3 +1,4 @@
+-- `is_utf8_by_character` answers `isUtf8`. The loop's invariant: from what is expected now, the rest decides as the whole does.
 use mathlib.Core.Path.{_≡_, refl, sym, _∙_}
 use Prim.Native.Nat.{_-_, _≤_}
 use native.Mathlib.Omega.{arith}

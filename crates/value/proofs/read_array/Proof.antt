@@ -1,3 +1,4 @@
+-- `read_array` answers `parseArray`: the count that is there is the definition's, and each return has its tests rewritten in order.
 use mathlib.Core.Path.{_≡_, sym, _∙_}
 use Prim.Native.Nat.{_≤_}
 use native.Mathlib.Omega.{arith}
@@ -22,21 +23,29 @@ enum-known-count c = search needs
 enum-told : tie.Need-enum-told
 enum-told c = search needs
 
+fault-at-requires : tie.Need-fault-at-requires
+fault-at-requires c κs = search needs
+
 returns : tie.Need-returns
 unfolding parseArray pick
-returns c =
+returns d =
+    let c = d .before in
     let s = c .before .before .before .before .args .s .now in
     let m = octet-missing s 0 (sym (c .enum-told .given .1) ∙ c .before .before .read-u8 .ensures) in
-    rw (lt-leb 1 (length s) (omega arith))
+    rw (d .fault-at .ensures, lt-leb 1 (length s) (omega arith))
 
 count-fits-requires : tie.Need-count-fits-requires
 count-fits-requires c κs = search needs
 
+fault-at-requires-2 : tie.Need-fault-at-requires-2
+fault-at-requires-2 c κs = search needs
+
 returns-2 : tie.Need-returns-2
 unfolding parseArray pick
-returns-2 c =
+returns-2 d =
+    let c = d .before in
     let h = there (c .before .before .before) in
-    rw (le-leb _ _ (h .0), ← (h .1), ← (c .before .count-fits .ensures), not-true (c .before .count-fits .result) (c .if1 .taken))
+    rw (d .fault-at2 .ensures, le-leb _ _ (h .0), ← (h .1), ← (c .before .count-fits .ensures), not-true (c .before .count-fits .result) (c .if1 .taken))
 
 read-elements-requires : tie.Need-read-elements-requires
 read-elements-requires c κs = there (c .before .before .before) .0
@@ -54,8 +63,10 @@ read-array-spec =
     read-u8-requires
     enum-known-count
     enum-told
+    fault-at-requires
     returns
     count-fits-requires
+    fault-at-requires-2
     returns-2
     read-elements-requires
     returns-3)

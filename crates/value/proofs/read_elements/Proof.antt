@@ -1,3 +1,4 @@
+-- `read_elements` answers `elements`. The loop's invariant: what is left, read from the place reached, comes to the whole; an element takes what is there.
 use mathlib.Core.Path.{_≡_, refl, sym, ap, _∙_}
 use Prim.Native.Nat.{ℕ, _+_, _-_, _*_, _≤_}
 use native.Mathlib.Omega.{arith}
@@ -66,7 +67,7 @@ moved-requires c κs =
     let a = l .before .before .args in
     let at = l .loop .at in
     let k = c .enum-told .given .0 in
-    let w = reads-refused (parseElement (a .element) at) (8 + (256 - at)) (drop at (a .s .now)) (k .0) (k .1 .0) (rw (sym (one-is r) ∙ c .enum-told .given .1) at (element-reads (a .element) at (drop at (a .s .now)))) in
+    let w = reads-refused (parseElement (a .element) at) (8 + (256 - at)) (drop at (a .s .now)) (k .0) (rw (sym (one-is r) ∙ c .enum-told .given .1) at (element-reads (a .element) at (drop at (a .s .now)))) in
     rw (c .enum-told .given .1) (omega (arith, w, length-drop at (a .s .now), l .loop .inv .0))
 
 returns : tie.Need-returns Inv-loop μ-loop
@@ -76,7 +77,7 @@ returns c =
     let l = r .before .before .before in
     let a = l .before .before .args in
     rw (c .moved .ensures, t .1)
-    (sym (elements-stop (parseElement (a .element)) (l .loop .left) (l .loop .at) (t .0 .0) (t .0 .1 .0) (drop (l .loop .at) (a .s .now)) (omega arith) (sym (t .1) ∙ one-is r)) ∙ l .loop .inv .3)
+    (sym (elements-stop (parseElement (a .element)) (l .loop .left) (l .loop .at) (t .0 .0) (drop (l .loop .at) (a .s .now)) (omega arith) (sym (t .1) ∙ one-is r)) ∙ l .loop .inv .3)
 
 add-at : tie.Need-add-at Inv-loop μ-loop
 add-at c = omega (arith, one-taken (c .before .before .before) (c .before .one .given .0 .0) (c .before .one .given .1))

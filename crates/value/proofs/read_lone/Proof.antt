@@ -1,3 +1,4 @@
+-- `read_lone` answers `parseLone`: the value's answer is told, and the test of its length rewritten.
 use borrow.Author.Tests.{eq-eqb, ne-eqb}
 use Rattle.field.specs.Choice.{pick}
 use Rattle.value.specs.Value.{parseLone}
@@ -20,11 +21,15 @@ returns c =
     let t = c .enum-told .given .1 in
     rw (← (c .before .before .read-value .ensures), t)
 
+fault-at-requires : tie.Need-fault-at-requires
+fault-at-requires c κs = search needs
+
 returns-2 : tie.Need-returns-2
 unfolding parseLone pick
-returns-2 c =
+returns-2 d =
+    let c = d .before in
     let f = c .before .before in
-    rw (← (f .before .before .read-value .ensures), f .value .given .1, ne-eqb _ _ (c .if1 .taken))
+    rw (d .fault-at .ensures, ← (f .before .before .read-value .ensures), f .value .given .1, ne-eqb _ _ (c .if1 .taken))
 
 returns-3 : tie.Need-returns-3
 unfolding parseLone pick
@@ -34,4 +39,4 @@ returns-3 c =
 
 pub read-lone-spec : {M : Type 1} → statement M
 read-lone-spec =
-    tie.close (tie.spec read-value-requires enum-known-value enum-told returns returns-2 returns-3)
+    tie.close (tie.spec read-value-requires enum-known-value enum-told returns fault-at-requires returns-2 returns-3)

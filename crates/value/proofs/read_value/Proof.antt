@@ -1,3 +1,4 @@
+-- `read_value` answers `parseValue`: the tests of the type are rewritten, and each reader's promise closes its return.
 use Rattle.value.proofs.ValueLaws.{known-array}
 use mathlib.Core.Path.{sym, ap, _∙_}
 use borrow.Author.Tests.{le-leb, lt-leb, not-true, not-false}
@@ -20,19 +21,28 @@ part-read-element-end c = search needs
 read-element-requires : tie.Need-read-element-requires
 read-element-requires c κs = search needs
 
+in-parts-requires : tie.Need-in-parts-requires
+in-parts-requires c κs = search needs
+
 returns : tie.Need-returns
 unfolding parseValue pick
-returns c =
+returns d =
+    let c = d .before in
     let w = c .before .before in
     let a = w .before .before .args in
-    rw (le-leb _ _ (w .if1 .taken)) (c .read-element .ensures ∙ ap (parseElement (a .t) 0) (rest-all 0 (a .s .now)))
+    rw (le-leb _ _ (w .if1 .taken)) (d .in-parts .ensures ∙ c .read-element .ensures ∙ ap (parseElement (a .t) 0) (rest-all 0 (a .s .now)))
 
 known-type-requires : tie.Need-known-type-requires
 known-type-requires c κs = search needs
 
+fault-at-requires : tie.Need-fault-at-requires
+fault-at-requires c κs = search needs
+
 returns-2 : tie.Need-returns-2
 unfolding parseValue pick
-returns-2 c = rw (lt-leb _ _ (c .before .before .if1 .left), ← (c .before .known-type .ensures), not-true (c .before .known-type .result) (c .if2 .taken))
+returns-2 d =
+    let c = d .before in
+    rw (d .fault-at .ensures, lt-leb _ _ (c .before .before .if1 .left), ← (c .before .known-type .ensures), not-true (c .before .known-type .result) (c .if2 .taken))
 
 sub-read-array : tie.Need-sub-read-array
 sub-read-array c = known-array (c .before .before .before .before .args .t) (c .before .before .if1 .left) (sym (c .before .known-type .ensures) ∙ not-false (c .before .known-type .result) (c .if2 .left))
@@ -52,8 +62,10 @@ read-value-spec =
     part-read-element-start
     part-read-element-end
     read-element-requires
+    in-parts-requires
     returns
     known-type-requires
+    fault-at-requires
     returns-2
     sub-read-array
     read-array-requires

@@ -1,3 +1,4 @@
+-- `check_assignment` answers what `checkAssignment` needs: name and value are told, and a message of their lengths has their sum and 8 bytes.
 use mathlib.Core.Path.{_≡_, sym, ap, _∙_}
 use Prim.Native.Nat.{_+_, _≤_}
 use native.Mathlib.Omega.{arith}
@@ -5,7 +6,7 @@ use lib.ListN.{length}
 use Rattle.message.specs.Layout.{Entry, layout}
 use Rattle.message.proofs.ReadBack.{length-assignment}
 use Rattle.writer.specs.Writer.{checkAssignment}
-use Rattle.writer.specs.declared.Needed.the-variants as N
+use Rattle.field.specs.declared.Parsed.the-variants.{Taken}
 use Rattle.writer.proofs.WriterLaws.{name-taken, lone-taken-is}
 use borrow.Author.Needs.{needs}
 use Rattle.writer.proofs.check_assignment.Statement.{statement}
@@ -35,15 +36,11 @@ enum-known-checked-name c = search needs
 enum-told : tie.Need-enum-told
 enum-told c = search needs
 
-refused-field-requires : tie.Need-refused-field-requires
-refused-field-requires c κs = search needs
-
 returns : tie.Need-returns
 unfolding checkAssignment
 returns c =
     λ id number.
-    let e = c .before .enum-told .given in
-    rw (← (c .before .before .before .check-name .ensures), e .1) (c .refused-field .ensures (e .0 .0) (e .0 .1 .0) (e .1))
+    rw (← (c .before .before .check-name .ensures), c .enum-told .given .1)
 
 read-lone-requires : tie.Need-read-lone-requires
 read-lone-requires c κs = search needs
@@ -54,17 +51,13 @@ enum-known-checked-value c = search needs
 enum-told-2 : tie.Need-enum-told-2
 enum-told-2 c = search needs
 
-refused-field-requires-2 : tie.Need-refused-field-requires-2
-refused-field-requires-2 c κs = search needs
-
 returns-2 : tie.Need-returns-2
 unfolding checkAssignment
 returns-2 c =
     λ id number.
-    let v = c .before .before .before in
+    let v = c .before .before in
     let n = v .before .before in
-    let e = c .before .enum-told2 .given in
-    rw (← (n .before .before .check-name .ensures), n .checked-name .given .1, ← (v .read-lone .ensures), e .1) (c .refused-field2 .ensures (e .0 .0) (e .0 .1 .0) (e .1))
+    rw (← (n .before .before .check-name .ensures), n .checked-name .given .1, ← (v .read-lone .ensures), c .enum-told2 .given .1)
 
 add-size : tie.Need-add-size
 unfolding to-name
@@ -85,7 +78,7 @@ returns-3 c =
     let size : 8 + n .checked-name .given .0 .0 + v .checked-value .given .0 .0 ≡ 8 + length (a .name .now) + length (a .value .now) =
     omega (arith, name-length n .0, value-length v .0) in
     rw (← (n .before .before .check-name .ensures), n .checked-name .given .1, ← (v .before .before .read-lone .ensures), v .checked-value .given .1, length-assignment id e)
-    (ap N.Bytes size)
+    (ap Taken size)
 
 pub check-assignment-spec : {M : Type 1} → statement M
 check-assignment-spec =
@@ -94,12 +87,10 @@ check-assignment-spec =
     check-name-requires
     enum-known-checked-name
     enum-told
-    refused-field-requires
     returns
     read-lone-requires
     enum-known-checked-value
     enum-told-2
-    refused-field-requires-2
     returns-2
     add-size
     add-size-2

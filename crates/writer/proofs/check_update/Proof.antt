@@ -1,3 +1,4 @@
+-- `check_update` answers what `checkUpdate` needs: the value is told, and a message of its length has 5 bytes more.
 use mathlib.Core.Path.{_≡_, sym, _∙_}
 use Prim.Native.Nat.{_≤_}
 use native.Mathlib.Omega.{arith}
@@ -25,15 +26,11 @@ enum-known-checked-value c = search needs
 enum-told : tie.Need-enum-told
 enum-told c = search needs
 
-refused-field-requires : tie.Need-refused-field-requires
-refused-field-requires c κs = search needs
-
 returns : tie.Need-returns
 unfolding checkUpdate
 returns c =
     λ id number.
-    let e = c .before .enum-told .given in
-    rw (← (c .before .before .before .read-lone .ensures), e .1) (c .refused-field .ensures (e .0 .0) (e .0 .1 .0) (e .1))
+    rw (← (c .before .before .read-lone .ensures), c .enum-told .given .1)
 
 add-size : tie.Need-add-size
 add-size c = omega (arith, value-length (c .before) .1)
@@ -53,7 +50,6 @@ check-update-spec =
     read-lone-requires
     enum-known-checked-value
     enum-told
-    refused-field-requires
     returns
     add-size
     returns-2)

@@ -1,3 +1,4 @@
+-- `write_checked` stores the message that `check` allows: by the kind that message is known, and with it the room that each writer asks for.
 use mathlib.Core.Path.{refl}
 use Prim.Native.Nat.{ℕ}
 use lib.ListN.{length}
@@ -6,7 +7,7 @@ use Rattle.field.specs.Choice.{pick}
 use Rattle.field.specs.Octets.{overwriteAt}
 use Rattle.message.specs.Layout.{hello, unsupported, keepAlive, helloComplete, layout}
 use Rattle.message.proofs.ReadBack.{length-revision}
-use Rattle.writer.specs.Writer.{Fields, check, Ready}
+use Rattle.writer.specs.Writer.{Fields, checkByKind, check, Ready}
 use Rattle.writer.proofs.WriterLaws.{check-keep-alive, check-hello, check-unsupported, check-hello-complete, ready-room, ready-assignment, ready-update}
 use borrow.Author.Needs.{needs}
 use Rattle.writer.proofs.write_checked.Statement.{statement}
@@ -125,7 +126,7 @@ returns-6 c =
     rw (ready-update (fields s) (room s) (is-ready s) (k .match .keys6) .0) (w .write-update .ensures)
 
 returns-7 : tie.Need-returns-7
-unfolding check pick overwriteAt
+unfolding checkByKind pick overwriteAt
 returns-7 c =
     let r = c .match .rest in
     rw (ne-eqb _ _ (r .0 .0 .0 .0 .0 .1), ne-eqb _ _ (r .0 .0 .0 .0 .1), ne-eqb _ _ (r .0 .0 .0 .1), ne-eqb _ _ (r .0 .0 .1), ne-eqb _ _ (r .0 .1), ne-eqb _ _ (r .1)) (refl, refl)

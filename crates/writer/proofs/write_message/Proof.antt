@@ -1,3 +1,4 @@
+-- `write_message` answers `answerOf` and leaves `outputOf`: what the fields need is told, and the laws of needing settle the three ways out.
 use Prim.Native.Nat.{_≤_, _<_}
 use native.Mathlib.Omega.{arith}
 use mathlib.Core.Path.{_≡_, sym, _∙_}
@@ -41,23 +42,28 @@ enum-known-needed c = search needs
 enum-told : tie.Need-enum-told
 enum-told c = search needs
 
-refused-message-requires : tie.Need-refused-message-requires
-refused-message-requires c κs = search needs
+fault-of-requires : tie.Need-fault-of-requires
+fault-of-requires c κs = search needs
 
 returns : tie.Need-returns
 returns c =
     let e = c .before .enum-told .given in
     let f = c .before .before .before in
     let h = needs-refused (check (fields f)) (f .before .before .before .before .args .out .now) (e .0 .0) (sym (e .1) ∙ needed-is f) in
-    (c .refused-message .ensures (e .0 .0) (e .1) ∙ h .0, h .1)
+    (rw (c .fault-of .ensures, e .1) (h .0), h .1)
+
+fault-at-requires : tie.Need-fault-at-requires
+fault-at-requires c κs = search needs
 
 returns-2 : tie.Need-returns-2
-returns-2 c =
+returns-2 d =
+    let c = d .before in
     let n = c .before .before in
     let f = n .before .before in
     let out = f .before .before .before .before .args .out .now in
     let short : length out < n .needed .given .0 .0 = omega (arith, c .if1 .taken) in
-    needs-more (check (fields f)) out (n .needed .given .0 .0) (sym (n .needed .given .1) ∙ needed-is f) short
+    rw (d .fault-at .ensures)
+    (needs-more (check (fields f)) out (n .needed .given .0 .0) (sym (n .needed .given .1) ∙ needed-is f) short)
 
 write-checked-requires : tie.Need-write-checked-requires
 unfolding to-checked
@@ -82,8 +88,9 @@ write-message-spec =
     check-fields-requires
     enum-known-needed
     enum-told
-    refused-message-requires
+    fault-of-requires
     returns
+    fault-at-requires
     returns-2
     write-checked-requires
     same-length

@@ -1,3 +1,4 @@
+-- `write_update` stores `updateBytes`: four stores, each where the one before it ended (`store-next`), come to one.
 use mathlib.Core.Path.{refl}
 use mathlib.Core.List.{[], _∷_}
 use Prim.Native.Nat.{_+_}
@@ -8,8 +9,8 @@ use Rattle.field.proofs.OctetsLaws.{length-encode16}
 use Rattle.field.proofs.OverwriteLaws.{stored, store-next}
 use Rattle.message.specs.Layout.{updateBytes, updateKind}
 use borrow.Author.Needs.{needs}
-use Rattle.writer.proofs.write_update.Statement.{statement}
-use Rattle.writer.proofs.write_update.Tie as tie
+use Rattle.encoder.proofs.write_update.Statement.{statement}
+use Rattle.encoder.proofs.write_update.Tie as tie
 
 put-u8-requires : tie.Need-put-u8-requires
 put-u8-requires c κs = search needs

@@ -1,3 +1,4 @@
+-- `write_assignment` stores `assignmentBytes`: seven stores, each where the one before it ended (`store-next`), come to one.
 use mathlib.Core.Path.{refl}
 use mathlib.Core.List.{[], _∷_}
 use Prim.Native.Nat.{_+_}
@@ -7,10 +8,10 @@ use Rattle.field.specs.Octets.{encode16}
 use Rattle.field.proofs.OctetsLaws.{length-encode16}
 use Rattle.field.proofs.OverwriteLaws.{stored, store-next}
 use Rattle.message.specs.Layout.{Entry, assignmentKind}
-use Rattle.writer.proofs.WriterLaws.{assignment-parts}
+use Rattle.encoder.proofs.EncoderLaws.{assignment-parts}
 use borrow.Author.Needs.{needs}
-use Rattle.writer.proofs.write_assignment.Statement.{statement}
-use Rattle.writer.proofs.write_assignment.Tie as tie
+use Rattle.encoder.proofs.write_assignment.Statement.{statement}
+use Rattle.encoder.proofs.write_assignment.Tie as tie
 
 add-type-at : tie.Need-add-type-at
 add-type-at c = search needs

@@ -6,8 +6,8 @@ use Rattle.field.proofs.OctetsLaws.{length-encode16}
 use Rattle.field.proofs.OverwriteLaws.{stored, store-next}
 use Rattle.message.specs.Layout.{revisionBytes}
 use borrow.Author.Needs.{needs}
-use Rattle.writer.proofs.write_revision.Statement.{statement}
-use Rattle.writer.proofs.write_revision.Tie as tie
+use Rattle.encoder.proofs.write_revision.Statement.{statement}
+use Rattle.encoder.proofs.write_revision.Tie as tie
 
 put-u8-requires : tie.Need-put-u8-requires
 put-u8-requires c κs = search needs
