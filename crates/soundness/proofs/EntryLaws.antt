@@ -2,20 +2,19 @@
 use mathlib.Core.Path.{_≡_, _∙_}
 use mathlib.Core.Bool.{true, false, _&&_, and-false, and-eq-true-iff, false≢true}
 use mathlib.Core.List.{List}
-use Prim.Native.Nat.{ℕ, _*_, _≤_, _<_}
+use Prim.Native.Nat.{ℕ, _≤_, _<_}
 use native.Mathlib.Omega.{arith}
 use lib.Dec.{leb}
-use lib.ListN.{getD, drop, length-take}
+use lib.ListN.{drop, length-take}
 use borrow.Author.Tests.{leb-true, le-leb, lt-leb}
 use Rattle.field.specs.Choice.{pick}
 use Rattle.field.specs.declared.Parsed.{Parsed}
 use Rattle.field.specs.declared.Parsed.the-variants.{Refused, Taken}
 use Rattle.text.specs.Utf8.{isUtf8}
-use Rattle.value.specs.Value.{knownType, parseValue, parseLone, IsValue}
+use Rattle.value.specs.Value.{maxValueSize, knownType, parseValue, parseLone, IsValue}
 use Rattle.value.proofs.ValueLaws.{LoneIs, lone-is, lone-taken}
-use Rattle.message.specs.Layout.{WellFormed}
-use Rattle.table.specs.Table.{headField, entryAt}
-use Rattle.table.proofs.SearchLaws.{first-field}
+use Rattle.message.specs.Layout.{maxNameLength, WellFormed}
+use Rattle.table.specs.Table.{nameLengthField, valueLengthField, typeField, nameStart, headField, entryAt}
 use Rattle.soundness.specs.Sound.{accepted, soundEntry}
 
 -- ---- a value
@@ -27,7 +26,7 @@ pub accepted-value : (t : ℕ) (v : List ℕ) → accepted (parseLone t v) ≡ t
 accepted-value t v h = go (parseLone t v) (lone-is t v) h
   where
     go : (r : Parsed) → LoneIs t v r → accepted r ≡ true → IsValue t v
-    go (Refused k p) LoneIs.refused e = absurd (false≢true e)
+    go (Refused fault) LoneIs.refused e = absurd (false≢true e)
     go (Taken n) (LoneIs.taken m w) e = w
 
 -- a type of two bytes is not known
@@ -38,47 +37,47 @@ type-unknown t v h = rw (lt-leb t 2 (omega arith), le-leb 16 t (omega arith), lt
 -- ---- the four tests
 
 module _ (heads bytes : List ℕ) (i : ℕ) where
-  pub long-name : 64 < getD heads (4 * i) 0 → soundEntry heads bytes i ≡ false
+  pub long-name : maxNameLength < headField heads i nameLengthField → soundEntry heads bytes i ≡ false
   unfolding soundEntry
-  long-name h = rw (lt-leb (headField heads i 0) 64 (omega (arith, first-field heads i)))
+  long-name h = rw (lt-leb (headField heads i nameLengthField) maxNameLength h)
 
-  pub long-value : 256 < headField heads i 1 → soundEntry heads bytes i ≡ false
+  pub long-value : maxValueSize < headField heads i valueLengthField → soundEntry heads bytes i ≡ false
   unfolding soundEntry
-  long-value h = rw (lt-leb (headField heads i 1) 256 h, and-false (leb (headField heads i 0) 64))
+  long-value h = rw (lt-leb (headField heads i valueLengthField) maxValueSize h, and-false (leb (headField heads i nameLengthField) maxNameLength))
 
   pub bad-name : isUtf8 (entryAt heads bytes i .name) ≡ false → soundEntry heads bytes i ≡ false
   unfolding soundEntry
-  bad-name h = rw (h, and-false (leb (headField heads i 0) 64 && leb (headField heads i 1) 256))
+  bad-name h = rw (h, and-false (leb (headField heads i nameLengthField) maxNameLength && leb (headField heads i valueLengthField) maxValueSize))
 
-  pub by-value : getD heads (4 * i) 0 ≤ 64 → headField heads i 1 ≤ 256 → isUtf8 (entryAt heads bytes i .name) ≡ true
-      → soundEntry heads bytes i ≡ accepted (parseLone (headField heads i 2) (entryAt heads bytes i .value))
+  pub by-value : headField heads i nameLengthField ≤ maxNameLength → headField heads i valueLengthField ≤ maxValueSize → isUtf8 (entryAt heads bytes i .name) ≡ true
+      → soundEntry heads bytes i ≡ accepted (parseLone (headField heads i typeField) (entryAt heads bytes i .value))
   unfolding soundEntry entryAt
-  by-value h g u = rw (le-leb (headField heads i 0) 64 (omega (arith, first-field heads i)), le-leb (headField heads i 1) 256 g, u)
+  by-value h g u = rw (le-leb (headField heads i nameLengthField) maxNameLength h, le-leb (headField heads i valueLengthField) maxValueSize g, u)
 
   -- ---- true gives the facts
 
-  pub entry-facts : soundEntry heads bytes i ≡ true → (headField heads i 0 ≤ 64) × (headField heads i 1 ≤ 256) × WellFormed (entryAt heads bytes i)
+  pub entry-facts : soundEntry heads bytes i ≡ true → (headField heads i nameLengthField ≤ maxNameLength) × (headField heads i valueLengthField ≤ maxValueSize) × WellFormed (entryAt heads bytes i)
   unfolding soundEntry entryAt
   entry-facts h =
       let e = entryAt heads bytes i in
-      let a = leb (headField heads i 0) 64 in
-      let b = leb (headField heads i 1) 256 in
+      let a = leb (headField heads i nameLengthField) maxNameLength in
+      let b = leb (headField heads i valueLengthField) maxValueSize in
       let v = accepted (parseLone (e .type) (e .value)) in
       let last = and-eq-true-iff (a && b && isUtf8 (e .name)) v .0 h in
       let text = and-eq-true-iff (a && b) (isUtf8 (e .name)) .0 (last .0) in
       let sizes = and-eq-true-iff a b .0 (text .0) in
-      let n : headField heads i 0 ≤ 64 = leb-true (headField heads i 0) 64 (sizes .0) in (
+      let n : headField heads i nameLengthField ≤ maxNameLength = leb-true (headField heads i nameLengthField) maxNameLength (sizes .0) in (
         n,
-        leb-true (headField heads i 1) 256 (sizes .1),
+        leb-true (headField heads i valueLengthField) maxValueSize (sizes .1),
         record {
-          name-fits = omega (arith, length-take (headField heads i 0) (drop (320 * i) bytes));
+          name-fits = omega (arith, length-take (headField heads i nameLengthField) (drop (nameStart i) bytes));
           name-text = text .1;
           value-whole = accepted-value (e .type) (e .value) (last .1);
         },
       )
 
   -- the facts give true
-  pub facts-entry : headField heads i 0 ≤ 64 → headField heads i 1 ≤ 256 → WellFormed (entryAt heads bytes i) → soundEntry heads bytes i ≡ true
+  pub facts-entry : headField heads i nameLengthField ≤ maxNameLength → headField heads i valueLengthField ≤ maxValueSize → WellFormed (entryAt heads bytes i) → soundEntry heads bytes i ≡ true
   unfolding entryAt
   facts-entry h g w =
-      by-value (omega (arith, first-field heads i)) g (w .name-text) ∙ value-accepted (entryAt heads bytes i .type) (entryAt heads bytes i .value) (w .value-whole)
+      by-value h g (w .name-text) ∙ value-accepted (entryAt heads bytes i .type) (entryAt heads bytes i .value) (w .value-whole)

@@ -2,14 +2,14 @@
 use mathlib.Core.Path.{_≡_}
 use mathlib.Core.Bool.{true, _&&_, and-eq-true-iff}
 use mathlib.Core.List.{List}
-use Prim.Native.Nat.{ℕ, _+_, _-_, _*_, _≤_, _<_}
-use native.Mathlib.Nat.{add-sub-cancel-left}
+use Prim.Native.Nat.{ℕ, _≤_, _<_}
 use native.Mathlib.Omega.{arith}
-use lib.ListN.{length, take, drop}
+use lib.ListN.{length}
 use Rattle.value.specs.Value.{IsValue, maxValueSize}
 use Rattle.value.proofs.ValueLaws.{value-known, known-small}
-use Rattle.table.specs.Table.{TableMemory, Holds, Named, Readable, headField, headSize, typeField, valueLengthField, valueStart, entryAt}
-use Rattle.soundness.specs.Sound.{soundTable, soundMarks}
+use Rattle.table.specs.Table.{TableMemory, typeField, valueLengthField, headField, HasHead, HasName, HasValue, entryAt, Holds, Named, Readable, maxEntries}
+use Rattle.table.proofs.SearchLaws.{has-name, has-value, holds-less}
+use Rattle.soundness.specs.Sound.{soundTable, connections, soundMarks}
 use Rattle.soundness.proofs.SoundLaws.{SoundFacts, sound-facts, marks-facts}
 
 module _ (limit : ℕ) (m : TableMemory) (h : soundTable limit m ≡ true) where
@@ -25,7 +25,7 @@ module _ (limit : ℕ) (m : TableMemory) (h : soundTable limit m ≡ true) where
   pub sound-named : Named (m .count) (m .heads) (m .bytes)
   sound-named =
       record {
-        holds = record { heads-hold = omega (arith, sound-holds .heads-hold, sound-count); bytes-hold = omega (arith, sound-holds .bytes-hold, sound-count) };
+        holds = holds-less (m .count) sound-count sound-holds;
         names-fit = facts .names-fit;
       }
 
@@ -40,34 +40,34 @@ module _ (limit : ℕ) (m : TableMemory) (h : soundTable limit m ≡ true) where
   pub sound-readable : Readable (m .count) (m .heads) (m .bytes)
   sound-readable = record { named = sound-named; values-fit = facts .values-fit; types-fit = λ i l. omega (arith, sound-type i l) }
 
--- head and value of entry i are there; the value is lent by its start and end
+-- what an entry of it has, as accessors require and answer it
 pub record StoredEntry (m : TableMemory) (i : ℕ) : Type 0 where
-  pub head-there : (j : ℕ) → j < headSize → headSize * i + j < length (m .heads)
+  pub head-there : HasHead i (m .heads)
+  pub name-there : HasName i (m .heads) (m .bytes)
+  pub value-there : HasValue i (m .heads) (m .bytes)
   pub type-small : headField (m .heads) i typeField ≤ 0x12
   pub value-small : headField (m .heads) i valueLengthField ≤ maxValueSize
-  pub value-there : valueStart i + headField (m .heads) i valueLengthField ≤ length (m .bytes)
-  pub value-whole : IsValue (headField (m .heads) i typeField)
-      (take (valueStart i + headField (m .heads) i valueLengthField - valueStart i) (drop (valueStart i) (m .bytes)))
+  pub value-whole : IsValue (headField (m .heads) i typeField) (entryAt (m .heads) (m .bytes) i .value)
 
 pub stored-entry : (limit : ℕ) (m : TableMemory) (i : ℕ) → soundTable limit m ≡ true → i < m .count → StoredEntry m i
 unfolding entryAt
 stored-entry limit m i h l =
-    let holds = sound-holds limit m h in
-    let fits = sound-count limit m h in
-    let small = sound-readable limit m h .values-fit i l in
+    let readable = sound-readable limit m h in
+    let name = has-name (m .heads) (m .bytes) i (readable .named) l in
     record {
-      head-there = λ j k. omega (arith, holds .heads-hold, fits);
+      head-there = name .0;
+      name-there = name;
+      value-there = has-value (m .heads) (m .bytes) i readable l;
       type-small = sound-type limit m h i l;
-      value-small = small;
-      value-there = omega (arith, holds .bytes-hold, fits, small);
-      value-whole = rw (add-sub-cancel-left (valueStart i) (headField (m .heads) i valueLengthField)) (sound-value limit m h i l);
+      value-small = readable .values-fit i l;
+      value-whole = sound-value limit m h i l;
     }
 
 -- ---- a sound table with sound marks
 
-module _ (table : TableMemory) (marks : List ℕ) (h : (soundTable 64 table && soundMarks marks) ≡ true) where
-  pub table-sound : soundTable 64 table ≡ true
-  table-sound = and-eq-true-iff (soundTable 64 table) (soundMarks marks) .0 h .0
+module _ (table : TableMemory) (marks : List ℕ) (h : (soundTable maxEntries table && soundMarks marks) ≡ true) where
+  pub table-sound : soundTable maxEntries table ≡ true
+  table-sound = and-eq-true-iff (soundTable maxEntries table) (soundMarks marks) .0 h .0
 
-  pub sixteen-marks : 16 ≤ length marks
-  sixteen-marks = marks-facts marks (and-eq-true-iff (soundTable 64 table) (soundMarks marks) .0 h .1) .0
+  pub sixteen-marks : connections ≤ length marks
+  sixteen-marks = marks-facts marks (and-eq-true-iff (soundTable maxEntries table) (soundMarks marks) .0 h .1) .0

@@ -6,19 +6,19 @@ use Prim.Native.Nat.{ℕ, _*_, _≤_, _<_}
 use lib.Dec.{leb}
 use lib.ListN.{length, getD}
 use borrow.Author.Tests.{leb-true, le-leb}
-use Rattle.message.specs.Layout.{WellFormed}
+use Rattle.value.specs.Value.{maxValueSize}
+use Rattle.message.specs.Layout.{maxNameLength, WellFormed}
 use Rattle.table.specs.Names.{namesDiffer}
-use Rattle.table.specs.Table.{TableMemory, Holds, Named, headField, entryAt, entriesOf}
-use Rattle.table.proofs.SearchLaws.{differ-below, below-differ}
-use Rattle.soundness.specs.Sound.{allBelow, soundEntry, largeEnough, soundTable, soundMarks}
+use Rattle.table.specs.Table.{TableMemory, headSize, entrySize, nameLengthField, valueLengthField, Holds, Named, headField, entryAt, entriesOf}
+use Rattle.soundness.specs.Sound.{allBelow, soundEntry, largeEnough, soundTable, connections, greeted, soundMarks}
 use Rattle.soundness.proofs.BelowLaws.{all-at, at-all}
 use Rattle.soundness.proofs.EntryLaws.{entry-facts, facts-entry}
 
 pub record SoundFacts (limit : ℕ) (m : TableMemory) : Type 0 where
   pub holds : Holds limit (m .heads) (m .bytes)
   pub count-fits : m .count ≤ limit
-  pub names-fit : (i : ℕ) → i < m .count → headField (m .heads) i 0 ≤ 64
-  pub values-fit : (i : ℕ) → i < m .count → headField (m .heads) i 1 ≤ 256
+  pub names-fit : (i : ℕ) → i < m .count → headField (m .heads) i nameLengthField ≤ maxNameLength
+  pub values-fit : (i : ℕ) → i < m .count → headField (m .heads) i valueLengthField ≤ maxValueSize
   pub well-formed : (i : ℕ) → i < m .count → WellFormed (entryAt (m .heads) (m .bytes) i)
   pub differ : namesDiffer (entriesOf m) ≡ true
 
@@ -27,17 +27,17 @@ pub record SoundFacts (limit : ℕ) (m : TableMemory) : Type 0 where
 pub large-holds : (limit : ℕ) (heads bytes : List ℕ) → largeEnough limit heads bytes ≡ true → Holds limit heads bytes
 unfolding largeEnough
 large-holds limit heads bytes h =
-    let both = and-eq-true-iff (leb (4 * limit) (length heads)) (leb (320 * limit) (length bytes)) .0 h in
-    record { heads-hold = leb-true (4 * limit) (length heads) (both .0); bytes-hold = leb-true (320 * limit) (length bytes) (both .1) }
+    let both = and-eq-true-iff (leb (headSize * limit) (length heads)) (leb (entrySize * limit) (length bytes)) .0 h in
+    record { heads-hold = leb-true (headSize * limit) (length heads) (both .0); bytes-hold = leb-true (entrySize * limit) (length bytes) (both .1) }
 
 pub holds-large : (limit : ℕ) (heads bytes : List ℕ) → Holds limit heads bytes → largeEnough limit heads bytes ≡ true
 unfolding largeEnough
-holds-large limit heads bytes h = rw (le-leb (4 * limit) (length heads) (h .heads-hold)) (le-leb (320 * limit) (length bytes) (h .bytes-hold))
+holds-large limit heads bytes h = rw (le-leb (headSize * limit) (length heads) (h .heads-hold)) (le-leb (entrySize * limit) (length bytes) (h .bytes-hold))
 
 -- ---- sound entries
 
 pub entries-facts : (n : ℕ) (heads bytes : List ℕ) → allBelow n (soundEntry heads bytes) ≡ true
-    → (i : ℕ) → i < n → (headField heads i 0 ≤ 64) × (headField heads i 1 ≤ 256) × WellFormed (entryAt heads bytes i)
+    → (i : ℕ) → i < n → (headField heads i nameLengthField ≤ maxNameLength) × (headField heads i valueLengthField ≤ maxValueSize) × WellFormed (entryAt heads bytes i)
 entries-facts n heads bytes s i l = entry-facts heads bytes i (all-at n (soundEntry heads bytes) s i l)
 
 pub entries-named : (n : ℕ) (heads bytes : List ℕ) → Holds n heads bytes → allBelow n (soundEntry heads bytes) ≡ true → Named n heads bytes
@@ -77,28 +77,16 @@ pub fits-sound : (limit : ℕ) (m : TableMemory) → Holds limit (m .heads) (m .
 unfolding soundTable
 fits-sound limit m h l = rw (holds-large limit (m .heads) (m .bytes) h, le-leb (m .count) limit l)
 
--- ---- names that all differ
-
-pub differ-facts : (m : TableMemory) → namesDiffer (entriesOf m) ≡ true
-    → (i j : ℕ) → i < j → j < m .count → entryAt (m .heads) (m .bytes) i .name ≡ entryAt (m .heads) (m .bytes) j .name → ⊥
-unfolding entriesOf
-differ-facts m h = differ-below (m .count) (entryAt (m .heads) (m .bytes)) h
-
-pub facts-differ : (m : TableMemory)
-    → ((i j : ℕ) → i < j → j < m .count → entryAt (m .heads) (m .bytes) i .name ≡ entryAt (m .heads) (m .bytes) j .name → ⊥) → namesDiffer (entriesOf m) ≡ true
-unfolding entriesOf
-facts-differ m h = below-differ (m .count) (entryAt (m .heads) (m .bytes)) h
-
 -- ---- connection marks
 
-pub marks-facts : (marks : List ℕ) → soundMarks marks ≡ true → (16 ≤ length marks) × ((c : ℕ) → c < 16 → getD marks c 0 ≤ 2)
+pub marks-facts : (marks : List ℕ) → soundMarks marks ≡ true → (connections ≤ length marks) × ((c : ℕ) → c < connections → getD marks c 0 ≤ greeted)
 unfolding soundMarks
 marks-facts marks h =
-    let p : ℕ → Bool = λ c. leb (getD marks c 0) 2 in
-    let both = and-eq-true-iff (leb 16 (length marks)) (allBelow 16 p) .0 h in
-    (leb-true 16 (length marks) (both .0), λ c l. leb-true (getD marks c 0) 2 (all-at 16 p (both .1) c l))
+    let p : ℕ → Bool = λ c. leb (getD marks c 0) greeted in
+    let both = and-eq-true-iff (leb connections (length marks)) (allBelow connections p) .0 h in
+    (leb-true connections (length marks) (both .0), λ c l. leb-true (getD marks c 0) greeted (all-at connections p (both .1) c l))
 
-pub facts-marks : (marks : List ℕ) → 16 ≤ length marks → ((c : ℕ) → c < 16 → getD marks c 0 ≤ 2) → soundMarks marks ≡ true
+pub facts-marks : (marks : List ℕ) → connections ≤ length marks → ((c : ℕ) → c < connections → getD marks c 0 ≤ greeted) → soundMarks marks ≡ true
 unfolding soundMarks
 facts-marks marks h g =
-    rw (le-leb 16 (length marks) h) (at-all 16 (λ (c : ℕ). leb (getD marks c 0) 2) (λ c l. le-leb (getD marks c 0) 2 (g c l)))
+    rw (le-leb connections (length marks) h) (at-all connections (λ (c : ℕ). leb (getD marks c 0) greeted) (λ c l. le-leb (getD marks c 0) greeted (g c l)))

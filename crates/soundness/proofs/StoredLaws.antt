@@ -7,7 +7,7 @@ use native.Mathlib.Decide.{decLt, ℕ-discrete}
 use native.Mathlib.Omega.{arith}
 use lib.ListN.{length, getD, set, length-append, length-set, List·getD-append}
 use lib.Seq.{getD-at, getD-set-same, getD-set-other}
-use Rattle.value.specs.Value.{IsValue}
+use Rattle.value.specs.Value.{maxValueSize, IsValue}
 use Rattle.value.proofs.ValueLaws.{value-small}
 use Rattle.message.specs.Layout.{Entry, WellFormed}
 use Rattle.table.specs.Names.{nameHeld, namesDiffer}
@@ -91,7 +91,7 @@ module _ (limit : ℕ) (m : TableMemory) (s : soundTable limit m ≡ true) where
     below : m .count < limit
     below = omega (arith, length-entries m)
 
-    small : length (e .value) ≤ 256
+    small : length (e .value) ≤ maxValueSize
     small = value-small (e .type) (e .value) (length (e .value)) (w .value-whole)
 
     pub stored-new : entriesOf (storeEntry m e) ≡ entriesOf m ++ (e ∷ [])
@@ -107,7 +107,7 @@ module _ (limit : ℕ) (m : TableMemory) (s : soundTable limit m ≡ true) where
     held-id : id < m .count
     held-id = omega (arith, length-entries m)
 
-    small-value : length value ≤ 256
+    small-value : length value ≤ maxValueSize
     small-value = value-small (getD (entriesOf m) id defaultEntry .type) value (length value) v
 
     pub stored-value : entriesOf (storeValue m id number value) ≡ withNumberAndValue (entriesOf m) id number value

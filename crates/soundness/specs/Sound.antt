@@ -20,7 +20,7 @@ allBelow (suc n) p = allBelow n p && p n
 
 -- a reader took what it was given
 abbrev pub accepted : Parsed → Bool
-accepted (Refused number place) = false
+accepted (Refused fault) = false
 accepted (Taken n) = true
 
 -- entry i has a name and a value that obey the paper: the value fills its stored length, and so its type is known.
@@ -37,7 +37,8 @@ largeEnough limit heads bytes = leb (headSize * limit) (length heads) && leb (en
 -- the table, with a limit of entries
 unfoldable pub soundTable : ℕ → TableMemory → Bool
 soundTable limit m =
-    largeEnough limit (m .heads) (m .bytes) && leb (m .count) limit && allBelow (m .count) (soundEntry (m .heads) (m .bytes)) && namesDiffer (entriesOf m)
+    largeEnough limit (m .heads) (m .bytes) && leb (m .count) limit
+    && allBelow (m .count) (soundEntry (m .heads) (m .bytes)) && namesDiffer (entriesOf m)
 
 -- "16 connections, 0 to 15"
 abbrev pub connections : ℕ

@@ -8,7 +8,7 @@ ghost use lib.ListN.{length};
 ghost use Rattle.field.specs.Choice.{pick};
 ghost use Rattle.message.specs.Layout.{maxNameLength};
 ghost use Rattle.table.specs.Names.{nameHeld, namesDiffer};
-ghost use Rattle.table.specs.Table.{Holds, Named, entryAt, tabulate, maxEntries};
+ghost use Rattle.table.specs.Table.{Holds, Named, entryAt, lent, entriesOf, maxEntries};
 ghost use Rattle.soundness.specs.Fingerprint.{fingerprints, several, weightAt, fingerprintOf, Covers};
 ghost use Rattle.soundness.specs.Sound.{accepted, allBelow, soundEntry, soundTable, soundMarks};
 
@@ -36,41 +36,34 @@ fn is_accepted(p: Parsed) -> bool
     ensures { λ r. ⌜ r ≡ accepted p ⌝ }
 {
     match p {
-        Parsed::Refused(_, _) => false,
+        Parsed::Refused(_) => false,
         Parsed::Taken(_) => true,
     }
 }
 
 // Whether entry i has a name and a value that obey the paper.
 fn entry_is_sound(heads: &[u16], bytes: &[u8], i: usize) -> bool
-    requires { ⌜ (i < maxEntries) × Holds maxEntries (now heads) (now bytes) ⌝ }
+    requires { ⌜ Holds (i + 1) (now heads) (now bytes) ⌝ }
     ensures { λ r. ⌜ r ≡ soundEntry (now (heads .entry)) (now (bytes .entry)) i ⌝ }
 {
-    let head = table::HEAD_SIZE * i;
-    let name_length = heads[head] as usize;
-    let value_length = heads[head + table::VALUE_LENGTH] as usize;
-    let type_code = heads[head + table::TYPE];
-    if name_length > table::NAME_SIZE {
+    if table::name_length_of(heads, i) > table::NAME_SIZE {
         return false;
     }
-    if value_length > table::VALUE_SIZE {
+    if table::value_length_of(heads, i) > table::VALUE_SIZE {
         return false;
     }
-    let name_at = table::ENTRY_SIZE * i;
-    let name_end = name_at + name_length;
-    if !text::is_utf8(&bytes[name_at..name_end]) {
+    if !text::is_utf8(table::name_of(heads, bytes, i)) {
         return false;
     }
+    let type_code = table::type_of(heads, i);
     if type_code > 255 {
         return false;
     }
-    let value_at = name_at + table::NAME_SIZE;
-    let value_end = value_at + value_length;
-    is_accepted(value::read_lone(type_code as u8, &bytes[value_at..value_end]))
+    is_accepted(value::read_lone(type_code as u8, table::value_of(heads, bytes, i)))
 }
 
 fn entries_are_sound(heads: &[u16], bytes: &[u8], count: usize) -> bool
-    requires { ⌜ (count ≤ maxEntries) × Holds maxEntries (now heads) (now bytes) ⌝ }
+    requires { ⌜ Holds count (now heads) (now bytes) ⌝ }
     ensures { λ r. ⌜ r ≡ allBelow count (soundEntry (now (heads .entry)) (now (bytes .entry))) ⌝ }
 {
     let mut i = 0;
@@ -107,29 +100,26 @@ fn fingerprint(name: &[u8]) -> usize
 
 // Whether entry i's name is held by an entry before it, where its fingerprint has this owner.
 fn held_before(heads: &[u16], bytes: &[u8], i: usize, owner: u8) -> bool
-    requires { ⌜ (i < maxEntries) × Named (i + 1) (now heads) (now bytes) ⌝ }
-    requires { ⌜ Covers i (entryAt (now heads) (now bytes)) owner ⌝ }
-    ensures { λ r. ⌜ r ≡ nameHeld (entryAt (now (heads .entry)) (now (bytes .entry)) i .name) (tabulate i (entryAt (now (heads .entry)) (now (bytes .entry)))) ⌝ }
+    requires names { ⌜ (i < several) × Named (i + 1) (now heads) (now bytes) ⌝ }
+    requires owner { ⌜ Covers i (entryAt (now heads) (now bytes)) owner ⌝ }
+    ensures { λ r.
+        ⌜ r ≡ nameHeld (entryAt (now (heads .entry)) (now (bytes .entry)) i .name)
+        (entriesOf (lent (heads .entry) (bytes .entry) i)) ⌝ }
 {
     if owner == 0 {
         return false;
     }
-    let head = table::HEAD_SIZE * i;
-    let name_at = table::ENTRY_SIZE * i;
-    let name_end = name_at + (heads[head] as usize);
+    let name = table::name_of(heads, bytes, i);
     let other = (owner - 1) as usize;
     if other >= i {
-        return table::find_name(heads, bytes, i, &bytes[name_at..name_end]) < i;
+        return table::find_name(heads, bytes, i, name) < i;
     }
-    let other_head = table::HEAD_SIZE * other;
-    let other_at = table::ENTRY_SIZE * other;
-    let other_end = other_at + (heads[other_head] as usize);
-    field::same_bytes(&bytes[other_at..other_end], &bytes[name_at..name_end])
+    field::same_bytes(table::name_of(heads, bytes, other), name)
 }
 
 // The owner of a fingerprint once entry i has it too.
 fn next_owner(owner: u8, i: usize) -> u8
-    requires { ⌜ i < maxEntries ⌝ }
+    requires { ⌜ i < several ⌝ }
     ensures { λ r. ⌜ r ≡ pick (eqb owner 0) (i + 1) several ⌝ }
 {
     if owner == 0 {
@@ -138,19 +128,16 @@ fn next_owner(owner: u8, i: usize) -> u8
     SEVERAL
 }
 
-// Whether the names of so many entries all differ: none is held by an entry before it. `owners` has each fingerprint's owner so far: 0 where it has
-// none, i + 1 where entry i alone has it, else SEVERAL. It may hold anything at first.
+// Whether the names of so many entries all differ: none is held by an entry before it. `owners` has each fingerprint's owner so far: 0 where
+// it has none, i + 1 where entry i alone has it, else SEVERAL. It may hold anything at first.
 fn all_differ(heads: &[u16], bytes: &[u8], count: usize, owners: &mut [u8]) -> bool
-    requires { ⌜ (count ≤ maxEntries) × Named count (now heads) (now bytes) ⌝ }
-    requires { ⌜ fingerprints ≤ length (now owners) ⌝ }
-    ensures { λ r. ⌜ r ≡ namesDiffer (tabulate count (entryAt (now (heads .entry)) (now (bytes .entry)))) ⌝ }
+    requires names { ⌜ (count ≤ several) × Named count (now heads) (now bytes) ⌝ }
+    requires owners { ⌜ fingerprints ≤ length (now owners) ⌝ }
+    ensures { λ r. ⌜ r ≡ namesDiffer (entriesOf (lent (heads .entry) (bytes .entry) count)) ⌝ }
 {
     let mut i = 0;
     while i < count {
-        let head = table::HEAD_SIZE * i;
-        let name_at = table::ENTRY_SIZE * i;
-        let name_end = name_at + (heads[head] as usize);
-        let f = fingerprint(&bytes[name_at..name_end]);
+        let f = fingerprint(table::name_of(heads, bytes, i));
         let owner = owners[f];
         if held_before(heads, bytes, i, owner) {
             return false;
@@ -163,8 +150,8 @@ fn all_differ(heads: &[u16], bytes: &[u8], count: usize, owners: &mut [u8]) -> b
 
 // Whether the names of so many entries all differ, each looked at once.
 fn names_differ(heads: &[u16], bytes: &[u8], count: usize) -> bool
-    requires { ⌜ (count ≤ maxEntries) × Named count (now heads) (now bytes) ⌝ }
-    ensures { λ r. ⌜ r ≡ namesDiffer (tabulate count (entryAt (now (heads .entry)) (now (bytes .entry)))) ⌝ }
+    requires { ⌜ (count ≤ several) × Named count (now heads) (now bytes) ⌝ }
+    ensures { λ r. ⌜ r ≡ namesDiffer (entriesOf (lent (heads .entry) (bytes .entry) count)) ⌝ }
 {
     if count < 2 {
         return true;
@@ -175,7 +162,7 @@ fn names_differ(heads: &[u16], bytes: &[u8], count: usize) -> bool
 
 // Whether a lent table is sound, with room for 64 entries.
 pub fn table_is_sound(heads: &[u16], bytes: &[u8], count: u16) -> bool
-    ensures { λ r. ⌜ r ≡ soundTable maxEntries (record { heads = now (heads .entry); bytes = now (bytes .entry); count = count }) ⌝ }
+    ensures { λ r. ⌜ r ≡ soundTable maxEntries (lent (heads .entry) (bytes .entry) count) ⌝ }
 {
     if heads.len() < table::HEADS_SIZE {
         return false;

@@ -1,48 +1,48 @@
--- Laws of the names in a lent table, and of the search over them.
-use mathlib.Core.Path.{_≡_, refl, sym, ap, _∙_}
+-- Laws of the entries in a lent table, and of the search over their names.
+use mathlib.Core.Path.{_≡_, refl, sym, _∙_}
 use mathlib.Core.Bool.{Bool, true, false, not, _&&_, true≢false}
 use mathlib.Core.List.{List}
-use Prim.Native.Nat.{ℕ, _+_, _-_, _*_, _≤_, _<_}
-use native.Mathlib.Nat.{add-zero}
+use Prim.Native.Nat.{ℕ, _+_, _≤_, _<_}
 use native.Mathlib.Numerals.{add-one}
 use native.Mathlib.Omega.{arith}
-use lib.ListN.{length, getD, take, drop, length-drop}
-use lib.Seq.{getD-take, getD-drop, length-take-le}
+use lib.ListN.{length, drop, length-drop}
+use lib.Seq.{length-take-le}
 use borrow.Author.Tests.{ltb-true, le-ltb, lt-ltb}
 use Rattle.message.specs.Layout.{Entry}
 use Rattle.field.specs.Octets.{bytesEqual}
 use Rattle.field.proofs.EqualLaws.{is-false, bytes-equal-true}
 use Rattle.table.specs.Names.{holder, nameHeld, namesDiffer}
-use Rattle.table.specs.Table.{TableMemory, Named, Readable, entryAt, entriesOf, headField, tabulate}
+use Rattle.table.specs.Table.{TableMemory, nameLengthField, valueLengthField, nameStart, valueStart, headField, HasName, HasValue, entryAt, Holds, Named, Readable, tabulate, entriesOf}
 use Rattle.table.proofs.NamesLaws.{holder-found, holder-absent, holder-first, held-at, differ-last, differ-at, at-differ}
 use Rattle.table.proofs.TabulateLaws.{length-tabulate, getD-tabulate, length-entries}
 
--- the first number of a head
-pub first-field : (heads : List ℕ) (i : ℕ) → headField heads i 0 ≡ getD heads (4 * i) 0
-first-field heads i = ap (λ (k : ℕ). getD heads k 0) (add-zero (4 * i))
+-- ---- an entry that is within memory
 
-pub name-fits : (n : ℕ) (heads bytes : List ℕ) (i : ℕ) → Named n heads bytes → i < n → getD heads (4 * i) 0 ≤ 64
-name-fits n heads bytes i m l = omega (arith, m .names-fit i l, first-field heads i)
+module _ (heads bytes : List ℕ) (i : ℕ) where
+  pub name-length : HasName i heads bytes → length (entryAt heads bytes i .name) ≡ headField heads i nameLengthField
+  unfolding entryAt
+  name-length h =
+      length-take-le (headField heads i nameLengthField) (drop (nameStart i) bytes) (omega (arith, length-drop (nameStart i) bytes))
 
-pub name-length : (n : ℕ) (heads bytes : List ℕ) (i : ℕ) → Named n heads bytes → i < n → length (entryAt heads bytes i .name) ≡ getD heads (4 * i) 0
-unfolding entryAt
-name-length n heads bytes i m l =
-    length-take-le (headField heads i 0) (drop (320 * i) bytes) (omega (arith, m .names-fit i l, m .holds .bytes-hold, length-drop (320 * i) bytes))
-    ∙ first-field heads i
+  pub value-length : HasValue i heads bytes → length (entryAt heads bytes i .value) ≡ headField heads i valueLengthField
+  unfolding entryAt
+  value-length h =
+      length-take-le (headField heads i valueLengthField) (drop (valueStart i) bytes) (omega (arith, length-drop (valueStart i) bytes))
 
-pub name-byte : (heads bytes : List ℕ) (i k : ℕ) → k < getD heads (4 * i) 0 → getD (entryAt heads bytes i .name) k 0 ≡ getD bytes (320 * i + k) 0
-unfolding entryAt
-name-byte heads bytes i k h =
-    getD-take (headField heads i 0) (drop (320 * i) bytes) k 0 (omega (arith, first-field heads i)) ∙ getD-drop (320 * i) bytes k 0
+  pub has-name : {n : ℕ} → Named n heads bytes → i < n → HasName i heads bytes
+  has-name m l = omega (arith, m .names-fit i l, m .holds .heads-hold, m .holds .bytes-hold)
 
-pub value-fits : (n : ℕ) (heads bytes : List ℕ) (i : ℕ) → Readable n heads bytes → i < n → getD heads (4 * i + 1) 0 ≤ 256
-value-fits n heads bytes i r l = r .values-fit i l
+  pub has-value : {n : ℕ} → Readable n heads bytes → i < n → HasValue i heads bytes
+  has-value r l = omega (arith, r .values-fit i l, r .named .holds .heads-hold, r .named .holds .bytes-hold)
 
-pub value-length : (n : ℕ) (heads bytes : List ℕ) (i : ℕ) → Readable n heads bytes → i < n → length (entryAt heads bytes i .value) ≡ getD heads (4 * i + 1) 0
-unfolding entryAt
-value-length n heads bytes i r l =
-    length-take-le (headField heads i 1) (drop (320 * i + 64) bytes)
-    (omega (arith, r .values-fit i l, r .named .holds .bytes-hold, length-drop (320 * i + 64) bytes))
+  -- the entry, by what accessors answer
+  pub entry-parts : (name : List ℕ) (type number : ℕ) (value : List ℕ) → name ≡ entryAt heads bytes i .name → type ≡ entryAt heads bytes i .type
+      → number ≡ entryAt heads bytes i .number → value ≡ entryAt heads bytes i .value
+      → record { name = name; type = type; number = number; value = value } ≡ entryAt heads bytes i
+  unfolding entryAt
+  entry-parts name type number value n t q v = λ j. record { name = n j; type = t j; number = q j; value = v j }
+
+-- ---- the search
 
 -- none of the first n has the name
 pub holder-below : (name : List ℕ) (f : ℕ → Entry) (n : ℕ) → ((i : ℕ) → i < n → bytesEqual (f i .name) name ≡ false) → holder name (tabulate n f) ≡ n
@@ -105,36 +105,22 @@ differ-held n f i l t = is-false (namesDiffer (tabulate n f)) (λ d. differ-belo
         bytes-equal-true (f (holder (f i .name) (tabulate i f)) .name) (f i .name)
         (rw (getD-tabulate i f (holder (f i .name) (tabulate i f)) (f 0) h) at (holder-found (f i .name) (tabulate i f) (f 0) (omega (arith, h, length-tabulate i f))))
 
--- ---- parts of memory
+-- ---- fewer entries
 
--- entry i's name, as the bytes from its start to its end
-pub name-part : (heads bytes : List ℕ) (i : ℕ) → take (320 * i + getD heads (4 * i) 0 - 320 * i) (drop (320 * i) bytes) ≡ entryAt heads bytes i .name
-unfolding entryAt
-name-part heads bytes i =
-    let e : 320 * i + getD heads (4 * i) 0 - 320 * i ≡ headField heads i 0 = omega (arith, first-field heads i) in
-    rw e
+module _ {n : ℕ} {heads bytes : List ℕ} (i : ℕ) (l : i ≤ n) where
+  pub holds-less : Holds n heads bytes → Holds i heads bytes
+  holds-less h = record { heads-hold = omega (arith, h .heads-hold); bytes-hold = omega (arith, h .bytes-hold) }
 
-pub value-part : (heads bytes : List ℕ) (i : ℕ)
-    → take (320 * i + 64 + getD heads (4 * i + 1) 0 - (320 * i + 64)) (drop (320 * i + 64) bytes) ≡ entryAt heads bytes i .value
-unfolding entryAt
-value-part heads bytes i =
-    let e : 320 * i + 64 + getD heads (4 * i + 1) 0 - (320 * i + 64) ≡ headField heads i 1 = omega arith in
-    rw e
+  pub named-less : Named n heads bytes → Named i heads bytes
+  named-less m = record { holds = holds-less (m .holds); names-fit = λ j k. m .names-fit j (omega arith) }
 
-pub named-less : (n : ℕ) (heads bytes : List ℕ) (i : ℕ) → i ≤ n → Named n heads bytes → Named i heads bytes
-named-less n heads bytes i l m =
-    record {
-      holds = record { heads-hold = omega (arith, m .holds .heads-hold); bytes-hold = omega (arith, m .holds .bytes-hold) };
-      names-fit = λ j h. m .names-fit j (omega arith);
-    }
-
-pub readable-less : (n : ℕ) (heads bytes : List ℕ) (i : ℕ) → i ≤ n → Readable n heads bytes → Readable i heads bytes
-readable-less n heads bytes i l r =
-    record {
-      named = named-less n heads bytes i l (r .named);
-      values-fit = λ j h. r .values-fit j (omega arith);
-      types-fit = λ j h. r .types-fit j (omega arith);
-    }
+  pub readable-less : Readable n heads bytes → Readable i heads bytes
+  readable-less r =
+      record {
+        named = named-less (r .named);
+        values-fit = λ j k. r .values-fit j (omega arith);
+        types-fit = λ j k. r .types-fit j (omega arith);
+      }
 
 -- ---- what the search's answer says of the entries of a table
 

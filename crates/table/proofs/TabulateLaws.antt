@@ -1,4 +1,4 @@
--- Laws of `tabulate`.
+-- Laws of `tabulate`, and of the entries of a table.
 use mathlib.Core.Path.{_≡_, refl, sym, ap, _∙_}
 use mathlib.Core.Logic.{_≢_}
 use mathlib.Core.List.{[], _∷_, _++_}
@@ -55,3 +55,8 @@ length-entries m = length-tabulate (m .count) (entryAt (m .heads) (m .bytes))
 pub entry-get : (m : TableMemory) (i : ℕ) (d : Entry) → i < m .count → getD (entriesOf m) i d ≡ entryAt (m .heads) (m .bytes) i
 unfolding entriesOf
 entry-get m i d h = getD-tabulate (m .count) (entryAt (m .heads) (m .bytes)) i d h
+
+-- its type and number, as its head has them
+pub type-get : (m : TableMemory) (i : ℕ) (d : Entry) → i < m .count → getD (entriesOf m) i d .type ≡ entryAt (m .heads) (m .bytes) i .type
+unfolding entryAt
+type-get m i d h = ap (λ (e : Entry). e .type) (entry-get m i d h)

@@ -2,6 +2,7 @@
 use Prim.Native.Nat.{ℕ, zero, suc, _+_, _*_, _≤_, _<_}
 use mathlib.Core.List.{List, [], _∷_, _++_}
 use lib.ListN.{length, take, drop, getD, set}
+use denote.Ref.{RefT, now}
 use Rattle.field.specs.Octets.{overwriteAt}
 use Rattle.message.specs.Layout.{Entry, maxNameLength}
 use lib.Dec.{ltb}
@@ -41,6 +42,10 @@ pub record TableMemory : Type 0 where
 abbrev pub tableMemory : (heads bytes : List ℕ) (count : ℕ) → TableMemory
 tableMemory heads bytes count = record { heads = heads; bytes = bytes; count = count }
 
+-- a table as it is lent to a call
+abbrev pub lent : (heads bytes : RefT (List ℕ)) (count : ℕ) → TableMemory
+lent heads bytes count = tableMemory (now heads) (now bytes) count
+
 -- "entry i's name starts at byte 320 x i, its value 64 bytes later"
 abbrev pub nameStart : ℕ → ℕ
 nameStart i = entrySize * i
@@ -56,6 +61,16 @@ pub record Holds (limit : ℕ) (heads bytes : List ℕ) : Type 0 where
 -- field j of head i
 abbrev pub headField : List ℕ → ℕ → ℕ → ℕ
 headField heads i j = getD heads (headSize * i + j) 0
+
+-- head i, and with it entry i's name or value, is within memory, as accessors require it
+abbrev pub HasHead : ℕ → List ℕ → Type 0
+HasHead i heads = headSize * i + headSize ≤ length heads
+
+abbrev pub HasName : ℕ → List ℕ → List ℕ → Type 0
+HasName i heads bytes = HasHead i heads × (nameStart i + headField heads i nameLengthField ≤ length bytes)
+
+abbrev pub HasValue : ℕ → List ℕ → List ℕ → Type 0
+HasValue i heads bytes = HasHead i heads × (valueStart i + headField heads i valueLengthField ≤ length bytes)
 
 -- n bytes from a place on
 abbrev pub part : ℕ → ℕ → List ℕ → List ℕ
@@ -102,13 +117,15 @@ parseHeldUpdate es = parseUpdate (λ id. ltb id (length es)) (λ id. getD es id 
 
 -- ---- storing
 
+-- the heads with another field j of head i
+abbrev pub withField : List ℕ → ℕ → ℕ → ℕ → List ℕ
+withField heads i j x = set heads (headSize * i + j) x
+
 -- the heads with all four numbers of entry i
 unfoldable pub headsWithEntry : List ℕ → ℕ → Entry → List ℕ
 headsWithEntry heads i e =
-    set
-    (set (set (set heads (headSize * i + nameLengthField) (length (e .name))) (headSize * i + valueLengthField) (length (e .value))) (headSize * i + typeField) (e .type))
-    (headSize * i + numberField)
-    (e .number)
+    let lengths = withField (withField heads i nameLengthField (length (e .name))) i valueLengthField (length (e .value)) in
+    withField (withField lengths i typeField (e .type)) i numberField (e .number)
 
 unfoldable pub bytesWithEntry : List ℕ → ℕ → Entry → List ℕ
 bytesWithEntry bytes i e = overwriteAt (overwriteAt bytes (nameStart i) (e .name)) (valueStart i) (e .value)
@@ -116,7 +133,7 @@ bytesWithEntry bytes i e = overwriteAt (overwriteAt bytes (nameStart i) (e .name
 -- the heads with another value's length and number of entry i
 unfoldable pub headsWithValue : List ℕ → ℕ → ℕ → List ℕ → List ℕ
 headsWithValue heads i number value =
-    set (set heads (headSize * i + valueLengthField) (length value)) (headSize * i + numberField) number
+    withField (withField heads i valueLengthField (length value)) i numberField number
 
 unfoldable pub bytesWithValue : List ℕ → ℕ → List ℕ → List ℕ
 bytesWithValue bytes i value = overwriteAt bytes (valueStart i) value

@@ -1,29 +1,35 @@
-// The lent table: the search over names, and storing.
+// The lent table: its layout, what an entry has, the search over names, and storing.
 use field::INCOMPLETE;
 use field::Number;
 use field::UNKNOWN_ID;
 use message::UpdateRead;
 ghost use mathlib.Core.Path.{_≡_};
-ghost use Prim.Native.Nat.{_≤_, _<_};
+ghost use mathlib.Core.List.{List};
+ghost use Prim.Native.Nat.{ℕ, _+_, _*_, _≤_, _<_};
 ghost use lib.ListN.{length};
 ghost use Rattle.table.specs.Names.{holder};
-ghost use Rattle.table.specs.Table.{Holds, Named, Readable, parseHeldUpdate, entryAt, tabulate, headsWithEntry, bytesWithEntry, headsWithValue, bytesWithValue, maxEntries};
+ghost use Rattle.table.specs.Table.{headSize, nameLengthField, valueLengthField};
+ghost use Rattle.table.specs.Table.{headField, HasHead, HasName, HasValue, entryAt};
+ghost use Rattle.table.specs.Table.{Holds, Named, Readable, lent, entriesOf, parseHeldUpdate};
+ghost use Rattle.table.specs.Table.{headsWithEntry, bytesWithEntry, headsWithValue, bytesWithValue};
 ghost use Rattle.message.specs.Layout.{maxNameLength};
+ghost use Rattle.message.specs.Lent.{lentEntry};
 ghost use Rattle.value.specs.Value.{maxValueSize};
 
 pub const MAX_ENTRIES: usize = 64;
-
-// An entry's bytes: its name's, and then its value's.
-pub const ENTRY_SIZE: usize = 320;
 
 pub const NAME_SIZE: usize = 64;
 
 pub const VALUE_SIZE: usize = 256;
 
-// A head's numbers: the name's length, the value's length, type and number.
+// An entry's bytes: its name's, and then its value's.
+pub const ENTRY_SIZE: usize = NAME_SIZE + VALUE_SIZE;
+
 pub const HEAD_SIZE: usize = 4;
 
-// A head's numbers past the first, by their place in it.
+// A head's numbers, by their place in it.
+pub const NAME_LENGTH: usize = 0;
+
 pub const VALUE_LENGTH: usize = 1;
 
 pub const TYPE: usize = 2;
@@ -35,25 +41,80 @@ pub const HEADS_SIZE: usize = HEAD_SIZE * MAX_ENTRIES;
 
 pub const BYTES_SIZE: usize = ENTRY_SIZE * MAX_ENTRIES;
 
+// ---- what an entry has: name and value, the numbers of its head
+
+fn head_field(heads: &[u16], i: usize, place: usize) -> u16
+    requires { ⌜ (HasHead i (now heads)) × (place < headSize) ⌝ }
+    ensures { λ r. ⌜ r ≡ headField (now (heads .entry)) i place ⌝ }
+{
+    heads[HEAD_SIZE * i + place]
+}
+
+pub fn name_length_of(heads: &[u16], i: usize) -> usize
+    requires { ⌜ HasHead i (now heads) ⌝ }
+    ensures { λ r. ⌜ r ≡ headField (now (heads .entry)) i nameLengthField ⌝ }
+{
+    head_field(heads, i, NAME_LENGTH) as usize
+}
+
+pub fn value_length_of(heads: &[u16], i: usize) -> usize
+    requires { ⌜ HasHead i (now heads) ⌝ }
+    ensures { λ r. ⌜ r ≡ headField (now (heads .entry)) i valueLengthField ⌝ }
+{
+    head_field(heads, i, VALUE_LENGTH) as usize
+}
+
+pub fn type_of(heads: &[u16], i: usize) -> u16
+    requires { ⌜ HasHead i (now heads) ⌝ }
+    ensures { λ r. ⌜ ((bytes : List ℕ) → r ≡ entryAt (now (heads .entry)) bytes i .type) ⌝ }
+{
+    head_field(heads, i, TYPE)
+}
+
+pub fn number_of(heads: &[u16], i: usize) -> u16
+    requires { ⌜ HasHead i (now heads) ⌝ }
+    ensures { λ r. ⌜ ((bytes : List ℕ) → r ≡ entryAt (now (heads .entry)) bytes i .number) ⌝ }
+{
+    head_field(heads, i, NUMBER)
+}
+
+pub fn name_of<'a>(heads: &[u16], bytes: &'a [u8], i: usize) -> &'a [u8]
+    requires { ⌜ HasName i (now heads) (now bytes) ⌝ }
+    ensures { λ r. ⌜ now r ≡ entryAt (now (heads .entry)) (now (bytes .entry)) i .name ⌝ }
+{
+    let from = ENTRY_SIZE * i;
+    let end = from + name_length_of(heads, i);
+    &bytes[from..end]
+}
+
+pub fn value_of<'a>(heads: &[u16], bytes: &'a [u8], i: usize) -> &'a [u8]
+    requires { ⌜ HasValue i (now heads) (now bytes) ⌝ }
+    ensures { λ r. ⌜ now r ≡ entryAt (now (heads .entry)) (now (bytes .entry)) i .value ⌝ }
+{
+    let from = ENTRY_SIZE * i + NAME_SIZE;
+    let end = from + value_length_of(heads, i);
+    &bytes[from..end]
+}
+
+// ---- the search, and an update of what is held
+
 // The ID of the first of so many entries whose name is equal, or their count where there is none.
 pub fn find_name(heads: &[u16], bytes: &[u8], count: usize, name: &[u8]) -> usize
-    requires { ⌜ count ≤ maxEntries ⌝ }
     requires { ⌜ Named count (now heads) (now bytes) ⌝ }
-    ensures { λ r. ⌜ r ≡ holder (now (name .entry)) (tabulate count (entryAt (now (heads .entry)) (now (bytes .entry)))) ⌝ }
+    ensures { λ r.
+        ⌜ r ≡ holder (now (name .entry)) (entriesOf (lent (heads .entry) (bytes .entry) count)) ⌝ }
 {
     let mut i = 0;
     let id = 'entries: loop {
         if i >= count {
             break 'entries count;
         }
-        let head = HEAD_SIZE * i;
-        let n = heads[head] as usize;
-        if n == name.len() {
-            let from = ENTRY_SIZE * i;
+        let held = name_of(heads, bytes, i);
+        if held.len() == name.len() {
             let mut equal = true;
             let mut k = 0;
-            while k < n {
-                equal = field::still_equal(equal, bytes[from + k], name[k]);
+            while k < name.len() {
+                equal = field::still_equal(equal, held[k], name[k]);
                 k += 1;
             }
             if equal {
@@ -68,18 +129,20 @@ pub fn find_name(heads: &[u16], bytes: &[u8], count: usize, name: &[u8]) -> usiz
 // An update of a held ID, read with its stored type. `bytes` is lent for the contract.
 pub fn read_held_update(heads: &[u16], bytes: &[u8], count: u16, m: &[u8]) -> UpdateRead
     requires { ⌜ Readable count (now heads) (now bytes) ⌝ }
-    ensures { λ r. ⌜ r ≡ parseHeldUpdate (tabulate count (entryAt (now (heads .entry)) (now (bytes .entry)))) (now (m .entry)) ⌝ }
+    ensures { λ r.
+        ⌜ r ≡ parseHeldUpdate (entriesOf (lent (heads .entry) (bytes .entry) count)) (now (m .entry)) ⌝ }
 {
     let Number::There(id) = reader::behind_kind(m) else {
-        return UpdateRead::Refused(INCOMPLETE, 1);
+        return UpdateRead::Refused(field::fault_at(INCOMPLETE, message::KIND_SIZE));
     };
     if id >= count {
-        return UpdateRead::Refused(UNKNOWN_ID, 1);
+        return UpdateRead::Refused(field::fault_at(UNKNOWN_ID, message::KIND_SIZE));
     }
-    let type_at = HEAD_SIZE * (id as usize) + TYPE;
-    let type_code = heads[type_at] as u8;
-    message::read_update(m, type_code)
+    let type_code = type_of(heads, id as usize);
+    message::read_update(m, type_code as u8)
 }
+
+// ---- storing
 
 // Stores an entry's head and bytes.
 pub fn store_entry(
@@ -91,14 +154,18 @@ pub fn store_entry(
     number: u16,
     value: &[u8],
 )
-    requires { ⌜ (id < maxEntries) × Holds maxEntries (now heads) (now bytes) ⌝ }
-    requires { ⌜ (length (now name) ≤ maxNameLength) × (length (now value) ≤ maxValueSize) ⌝ }
-    ensures { λ _. ⌜ now (heads .exit) ≡ headsWithEntry (now (heads .entry)) id (record { name = now (name .entry); type = «type_code»; number = number; value = now (value .entry) }) ⌝ }
-    ensures { λ _. ⌜ now (bytes .exit) ≡ bytesWithEntry (now (bytes .entry)) id (record { name = now (name .entry); type = «type_code»; number = number; value = now (value .entry) }) ⌝ }
+    requires memory { ⌜ Holds (id + 1) (now heads) (now bytes) ⌝ }
+    requires lengths { ⌜ (length (now name) ≤ maxNameLength) × (length (now value) ≤ maxValueSize) ⌝ }
+    ensures heads { λ _.
+        ⌜ now (heads .exit)
+        ≡ headsWithEntry (now (heads .entry)) id (lentEntry (name .entry) «type_code» number (value .entry)) ⌝ }
+    ensures bytes { λ _.
+        ⌜ now (bytes .exit)
+        ≡ bytesWithEntry (now (bytes .entry)) id (lentEntry (name .entry) «type_code» number (value .entry)) ⌝ }
 {
     let head = HEAD_SIZE * id;
     let name_at = ENTRY_SIZE * id;
-    heads[head] = name.len() as u16;
+    heads[head + NAME_LENGTH] = name.len() as u16;
     heads[head + VALUE_LENGTH] = value.len() as u16;
     heads[head + TYPE] = type_code;
     heads[head + NUMBER] = number;
@@ -108,10 +175,10 @@ pub fn store_entry(
 
 // Stores another number and value of an entry.
 pub fn store_value(heads: &mut [u16], bytes: &mut [u8], id: usize, number: u16, value: &[u8])
-    requires { ⌜ (id < maxEntries) × Holds maxEntries (now heads) (now bytes) ⌝ }
-    requires { ⌜ length (now value) ≤ maxValueSize ⌝ }
-    ensures { λ _. ⌜ now (heads .exit) ≡ headsWithValue (now (heads .entry)) id number (now (value .entry)) ⌝ }
-    ensures { λ _. ⌜ now (bytes .exit) ≡ bytesWithValue (now (bytes .entry)) id (now (value .entry)) ⌝ }
+    requires memory { ⌜ Holds (id + 1) (now heads) (now bytes) ⌝ }
+    requires length { ⌜ length (now value) ≤ maxValueSize ⌝ }
+    ensures heads { λ _. ⌜ now (heads .exit) ≡ headsWithValue (now (heads .entry)) id number (now (value .entry)) ⌝ }
+    ensures bytes { λ _. ⌜ now (bytes .exit) ≡ bytesWithValue (now (bytes .entry)) id (now (value .entry)) ⌝ }
 {
     let head = HEAD_SIZE * id;
     heads[head + VALUE_LENGTH] = value.len() as u16;

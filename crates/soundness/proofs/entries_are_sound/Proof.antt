@@ -1,3 +1,4 @@
+-- `entries_are_sound` meets its contract: the entries passed are sound.
 use mathlib.Core.Path.{_≡_, sym, _∙_}
 use mathlib.Core.Bool.{true}
 use Prim.Native.Nat.{_-_, _≤_}
@@ -18,7 +19,7 @@ loop-holds : tie.Need-loop-holds Inv-loop μ-loop
 loop-holds c = (omega arith, all-none (soundEntry _ _))
 
 entry-is-sound-requires : tie.Need-entry-is-sound-requires Inv-loop μ-loop
-entry-is-sound-requires c κs = (omega arith, c .before .before .before .before .pre .1)
+entry-is-sound-requires c κs = record { heads-hold = omega arith; bytes-hold = omega arith }
 
 returns : tie.Need-returns Inv-loop μ-loop
 returns c =

@@ -1,3 +1,4 @@
+-- `fingerprint` meets its contract: the sum is that of the bytes passed, each by the weight of its place.
 use mathlib.Core.Path.{_≡_, refl, _∙_}
 use Prim.Native.Nat.{_-_, _≤_}
 use native.Mathlib.Omega.{arith}

@@ -1,3 +1,4 @@
+-- `marks_are_sound` meets its contract: the marks passed are at most 2.
 use mathlib.Core.Path.{sym}
 use Prim.Native.Nat.{ℕ, _-_, _≤_, _<_}
 use native.Mathlib.Omega.{arith}

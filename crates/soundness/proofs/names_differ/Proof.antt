@@ -1,12 +1,13 @@
 use mathlib.Core.Path.{sym}
 use native.Mathlib.Omega.{arith}
 use borrow.Author.Needs.{needs}
-use Rattle.table.specs.Table.{entryAt}
+use Rattle.table.specs.Table.{entryAt, entriesOf}
 use Rattle.table.proofs.SearchLaws.{below-differ}
 use Rattle.soundness.proofs.names_differ.Statement.{statement}
 use Rattle.soundness.proofs.names_differ.Tie as tie
 
 returns : tie.Need-returns
+unfolding entriesOf
 returns c =
     let a = c .before .before .before .args in
     sym (below-differ (a .count) (entryAt (a .heads .now) (a .bytes .now)) (λ i j l m e. omega arith))

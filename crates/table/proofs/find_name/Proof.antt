@@ -1,25 +1,25 @@
-use mathlib.Core.Path.{_≡_, refl, sym, _∙_}
-use mathlib.Core.Bool.{Bool, false, _&&_, and-true}
+-- `find_name` meets its contract. The entries passed have other names; the inner loop has compared the bytes passed, and the rests remain.
+use mathlib.Core.Path.{_≡_, refl, sym, ap, _∙_}
+use mathlib.Core.Bool.{Bool, true, false, _&&_, and-true}
 use mathlib.Core.List.{List}
 use mathlib.Core.Logic.{⊎-elim}
-use Prim.Native.Nat.{ℕ, _-_, _*_, _≤_, _<_}
+use Prim.Native.Nat.{ℕ, _-_, _≤_, _<_}
 use native.Mathlib.Omega.{arith}
-use lib.ListN.{length, getD, drop}
+use lib.ListN.{length, drop}
 use borrow.Author.Count.{below-more}
 use borrow.Author.Needs.{needs}
 use Rattle.field.specs.Octets.{bytesEqual}
-use Rattle.table.specs.Table.{entryAt}
+use Rattle.table.specs.Table.{entryAt, entriesOf}
 use Rattle.field.proofs.EqualLaws.{bytes-equal-length, equal-step, equal-end}
-use Rattle.table.proofs.SearchLaws.{holder-below, holder-at, name-fits, name-length, name-byte}
+use Rattle.table.proofs.SearchLaws.{has-name, holder-below, holder-at}
 use Rattle.table.proofs.find_name.Statement.{statement}
 use Rattle.table.proofs.find_name.Tie as tie
 
 abbrev Inv-loop : tie.InvT-loop
-Inv-loop heads bytes count name i head n from equal₀ k₀ equal k =
-    (k ≤ n) × (bytesEqual (entryAt heads bytes i .name) name ≡ (equal && bytesEqual (drop k (entryAt heads bytes i .name)) (drop k name)))
+Inv-loop heads bytes count name i held equal₀ k₀ equal k = (k ≤ length name) × (bytesEqual held name ≡ (equal && bytesEqual (drop k held) (drop k name)))
 
 abbrev μ-loop : tie.MeasureT-loop
-μ-loop heads bytes count name i head n from equal₀ k₀ equal k = n - k
+μ-loop heads bytes count name i held equal₀ k₀ equal k = length name - k
 
 abbrev Inv-entries : tie.InvT-entries
 Inv-entries heads bytes count name i₀ i = (i ≤ count) × ((j : ℕ) → j < i → bytesEqual (entryAt heads bytes j .name) name ≡ false)
@@ -27,60 +27,35 @@ Inv-entries heads bytes count name i₀ i = (i ≤ count) × ((j : ℕ) → j < 
 abbrev μ-entries : tie.MeasureT-entries
 μ-entries heads bytes count name i₀ i = count - i
 
--- in a turn: the heads, the bytes, the name and the entry looked at
-abbrev H : tie.Else1 Inv-loop μ-loop Inv-entries μ-entries → List ℕ
-H c = c .before .before .before .before .before .args .heads .now
+-- in a turn: the name that entry i has, the name looked for, and i
+abbrev E : tie.After-name-of Inv-loop μ-loop Inv-entries μ-entries → List ℕ
+E c = c .name-of .result .now
 
-abbrev Y : tie.Else1 Inv-loop μ-loop Inv-entries μ-entries → List ℕ
-Y c = c .before .before .before .before .before .args .bytes .now
+abbrev N : tie.After-name-of Inv-loop μ-loop Inv-entries μ-entries → List ℕ
+N c = c .before .before .before .before .before .before .args .name .now
 
-abbrev N : tie.Else1 Inv-loop μ-loop Inv-entries μ-entries → List ℕ
-N c = c .before .before .before .before .before .args .name .now
-
-abbrev I : tie.Else1 Inv-loop μ-loop Inv-entries μ-entries → ℕ
-I c = c .before .entries .i
-
-fits : (c : tie.Else1 Inv-loop μ-loop Inv-entries μ-entries) → getD (H c) (4 * I c) 0 ≤ 64
-fits c = name-fits (c .before .before .before .before .before .args .count) (H c) (Y c) (I c) (c .before .before .before .before .before .pre .1) (c .if1 .left)
-
-len : (c : tie.Else1 Inv-loop μ-loop Inv-entries μ-entries) → length (entryAt (H c) (Y c) (I c) .name) ≡ getD (H c) (4 * I c) 0
-len c = name-length (c .before .before .before .before .before .args .count) (H c) (Y c) (I c) (c .before .before .before .before .before .pre .1) (c .if1 .left)
-
--- after the inner loop: the comparison's result
-compared : (t : tie.Else1 Inv-loop μ-loop Inv-entries μ-entries) (equal : Bool) (k : ℕ) → getD (H t) (4 * I t) 0 ≡ length (N t) → k ≡ length (N t)
-    → bytesEqual (entryAt (H t) (Y t) (I t) .name) (N t) ≡ (equal && bytesEqual (drop k (entryAt (H t) (Y t) (I t) .name)) (drop k (N t)))
-    → bytesEqual (entryAt (H t) (Y t) (I t) .name) (N t) ≡ equal
-compared t equal k same done inv =
-    inv ∙ rw (equal-end (entryAt (H t) (Y t) (I t) .name) (N t) k (omega (arith, len t, same, done)) done) (and-true equal)
+-- both names are equal where the entry's is
+looked-at : (c : tie.After-name-of Inv-loop μ-loop Inv-entries μ-entries) (b : Bool) → bytesEqual (E c) (N c) ≡ b
+    → bytesEqual (entryAt (c .before .before .before .before .before .before .args .heads .now) (c .before .before .before .before .before .before .args .bytes .now) (c .before .before .entries .i) .name) (N c) ≡ b
+looked-at c b h = ap (λ (n : List ℕ). bytesEqual n (N c)) (sym (c .name-of .ensures)) ∙ h
 
 entries-holds : tie.Need-entries-holds Inv-loop μ-loop Inv-entries μ-entries
 entries-holds c = (omega arith, λ j h. absurd (omega arith))
 
-mul-head : tie.Need-mul-head Inv-loop μ-loop Inv-entries μ-entries
-mul-head c = omega arith
-
-mul-n : tie.Need-mul-n Inv-loop μ-loop Inv-entries μ-entries
-mul-n c = omega arith
-
-shared-slice-read-n : tie.Need-shared-slice-read-n Inv-loop μ-loop Inv-entries μ-entries
-shared-slice-read-n c = omega arith
-
-cast-n : tie.Need-cast-n Inv-loop μ-loop Inv-entries μ-entries
-cast-n c = omega (arith, fits (c .before))
-
-mul-from : tie.Need-mul-from Inv-loop μ-loop Inv-entries μ-entries
-mul-from c = omega arith
+name-of-requires : tie.Need-name-of-requires Inv-loop μ-loop Inv-entries μ-entries
+name-of-requires c κs =
+    let s = c .before .before .before .before .before in
+    has-name (s .args .heads .now) (s .args .bytes .now) (c .before .entries .i) (s .pre) (c .if1 .left)
 
 loop-holds : tie.Need-loop-holds Inv-loop μ-loop Inv-entries μ-entries
 loop-holds c = (omega arith, refl)
 
-add-still-equal : tie.Need-add-still-equal Inv-loop μ-loop Inv-entries μ-entries
-add-still-equal c = omega (arith, fits (c .before .before .before .before))
+shared-slice-read-still-equal :
+    tie.Need-shared-slice-read-still-equal Inv-loop μ-loop Inv-entries μ-entries
+shared-slice-read-still-equal c = omega arith
 
-shared-slice-read-still-equal : tie.Need-shared-slice-read-still-equal Inv-loop μ-loop Inv-entries μ-entries
-shared-slice-read-still-equal c = omega (arith, fits (c .before .before .before .before .before))
-
-shared-slice-read-still-equal-2 : tie.Need-shared-slice-read-still-equal-2 Inv-loop μ-loop Inv-entries μ-entries
+shared-slice-read-still-equal-2 :
+    tie.Need-shared-slice-read-still-equal-2 Inv-loop μ-loop Inv-entries μ-entries
 shared-slice-read-still-equal-2 c = omega arith
 
 still-equal-requires : tie.Need-still-equal-requires Inv-loop μ-loop Inv-entries μ-entries
@@ -94,17 +69,21 @@ loop-less c = omega arith
 
 loop-again : tie.Need-loop-again Inv-loop μ-loop Inv-entries μ-entries
 loop-again c =
-    let t = c .before .before .before .before .before .before .before in
+    let t = c .before .before .before .before .before .before in
     let l = c .before .before .before .before .loop in
-    let e = entryAt (H t) (Y t) (I t) .name in
-    (omega arith, rw (c .still-equal .ensures, ← (name-byte (H t) (Y t) (I t) (l .k) (omega arith))) (l .inv .1 ∙ equal-step (l .equal) e (N t) (l .k) (omega (arith, len t)) (omega arith)))
+    (omega arith, rw (c .still-equal .ensures) (l .inv .1 ∙ equal-step (l .equal) (E t) (N t) (l .k) (omega arith) (omega arith)))
+
+-- after the inner loop: the comparison's result
+compared : (held name : List ℕ) (equal : Bool) (k : ℕ) → length held ≡ length name → k ≡ length name
+    → bytesEqual held name ≡ (equal && bytesEqual (drop k held) (drop k name)) → bytesEqual held name ≡ equal
+compared held name equal k same done inv = inv ∙ rw (equal-end held name k (omega arith) done) (and-true equal)
 
 -- a turn that ended without the name
-other : (c : tie.Joined2 Inv-loop μ-loop Inv-entries μ-entries) → bytesEqual (entryAt (H (c .before .before)) (Y (c .before .before)) (I (c .before .before)) .name) (N (c .before .before)) ≡ false
+other : (c : tie.Joined2 Inv-loop μ-loop Inv-entries μ-entries) → bytesEqual (E (c .before)) (N (c .before)) ≡ false
 other c =
-    let t = c .before .before in
-    ⊎-elim (λ w. compared t (w .1 .equal) (w .1 .k) (w .0 .taken) (omega (arith, w .0 .taken, w .1 .inv .0, w .2 .left)) (w .1 .inv .1) ∙ w .3 .left)
-    (λ w. bytes-equal-length (entryAt (H t) (Y t) (I t) .name) (N t) (λ q. w .left (sym (len t) ∙ q)))
+    let t = c .before in
+    ⊎-elim (λ w. compared (E t) (N t) (w .1 .equal) (w .1 .k) (w .0 .taken) (omega (arith, w .1 .inv .0, w .2 .left)) (w .1 .inv .1) ∙ w .3 .left)
+    (λ w. bytes-equal-length (E t) (N t) (w .left))
     (c .if2 .came)
 
 add-i : tie.Need-add-i Inv-loop μ-loop Inv-entries μ-entries
@@ -114,19 +93,23 @@ entries-less : tie.Need-entries-less Inv-loop μ-loop Inv-entries μ-entries
 entries-less c = omega arith
 
 entries-again : tie.Need-entries-again Inv-loop μ-loop Inv-entries μ-entries
-entries-again c = (omega arith, below-more _ _ (c .before .before .before .entries .inv .1) (other c))
+entries-again c = (omega arith, below-more _ _ (c .before .before .before .entries .inv .1) (looked-at (c .before) false (other c)))
 
 returns : tie.Need-returns Inv-loop μ-loop Inv-entries μ-entries
+unfolding entriesOf
 returns c =
     let a = c .before .before .before .before .before .args in
     sym (holder-below (a .name .now) (entryAt (a .heads .now) (a .bytes .now)) (a .count) (λ i l. c .before .entries .inv .1 i (omega arith)))
 
 returns-2 : tie.Need-returns-2 Inv-loop μ-loop Inv-entries μ-entries
+unfolding entriesOf
 returns-2 c =
-    let t = c .before .before .before .before .before in
     let l = c .before .before in
-    sym (holder-at (N t) (entryAt (H t) (Y t)) (t .before .before .before .before .before .args .count) (I t) (t .if1 .left) (t .before .entries .inv .1)
-    (compared t (l .loop .equal) (l .loop .k) (l .before .if2 .taken) (omega arith) (l .loop .inv .1) ∙ c .if3 .taken))
+    let t = l .before .before in
+    let a = t .before .before .before .before .before .before .args in
+    let same = compared (E t) (N t) (l .loop .equal) (l .loop .k) (l .before .if2 .taken) (omega arith) (l .loop .inv .1) ∙ c .if3 .taken in
+    sym (holder-at (N t) (entryAt (a .heads .now) (a .bytes .now)) (a .count) (t .before .before .entries .i) (t .before .if1 .left) (t .before .before .entries .inv .1)
+    (looked-at t true same))
 
 pub find-name-spec : {M : Type 1} → statement M
 find-name-spec =
@@ -137,13 +120,8 @@ find-name-spec =
     Inv-entries
     μ-entries
     entries-holds
-    mul-head
-    mul-n
-    shared-slice-read-n
-    cast-n
-    mul-from
+    name-of-requires
     loop-holds
-    add-still-equal
     shared-slice-read-still-equal
     shared-slice-read-still-equal-2
     still-equal-requires

@@ -1,7 +1,8 @@
-use mathlib.Core.Path.{_≡_, sym, ap, _∙_}
+-- `read_held_update` meets its contract: an ID below the count is held, and the type in its head is the stored entry's.
+use mathlib.Core.Path.{_≡_, sym, _∙_}
 use mathlib.Core.Bool.{true, false}
 use mathlib.Core.List.{List}
-use Prim.Native.Nat.{ℕ, _+_, _-_, _*_, _≤_, _<_}
+use Prim.Native.Nat.{ℕ, _≤_, _<_}
 use native.Mathlib.Omega.{arith}
 use lib.ListN.{length, drop, getD}
 use lib.Dec.{ltb}
@@ -10,8 +11,8 @@ use Rattle.field.specs.Octets.{decode16}
 use Rattle.field.proofs.FieldLaws.{number-there, number-missing}
 use Rattle.message.specs.Layout.{Entry}
 use Rattle.message.proofs.ReaderLaws.{update-short, update-unknown, update-held}
-use Rattle.table.specs.Table.{defaultEntry, entryAt, tabulate}
-use Rattle.table.proofs.TabulateLaws.{length-tabulate, getD-tabulate}
+use Rattle.table.specs.Table.{TableMemory, tableMemory, defaultEntry, entryAt, entriesOf}
+use Rattle.table.proofs.TabulateLaws.{length-entries, type-get}
 use borrow.Author.Needs.{needs}
 use Rattle.table.proofs.read_held_update.Statement.{statement}
 use Rattle.table.proofs.read_held_update.Tie as tie
@@ -19,22 +20,21 @@ use Rattle.table.proofs.read_held_update.Tie as tie
 to-start : tie.After-id → tie.Start
 to-start c = c .before .before .before .before .before .before
 
+abbrev memory : tie.Start → TableMemory
+memory s = tableMemory (s .args .heads .now) (s .args .bytes .now) (s .args .count)
+
 abbrev entries : tie.Start → List Entry
-entries s = tabulate (s .args .count) (entryAt (s .args .heads .now) (s .args .bytes .now))
+entries s = entriesOf (memory s)
 
 id-there : (c : tie.After-id) → (3 ≤ length (to-start c .args .m .now)) × (c .id .given .0 .0 ≡ decode16 (drop 1 (to-start c .args .m .now)))
 unfolding to-start
 id-there c = number-there (to-start c .args .m .now) 1 (c .id .given .0 .0) (sym (c .id .given .1) ∙ c .before .before .behind-kind .ensures)
 
 held : (s : tie.Start) (id : ℕ) → id < s .args .count → ltb id (length (entries s)) ≡ true
-held s id h = lt-ltb id (length (entries s)) (omega (arith, length-tabulate (s .args .count) (entryAt (s .args .heads .now) (s .args .bytes .now))))
+held s id h = lt-ltb id (length (entries s)) (omega (arith, length-entries (memory s)))
 
 not-held : (s : tie.Start) (id : ℕ) → s .args .count ≤ id → ltb id (length (entries s)) ≡ false
-not-held s id h = le-ltb id (length (entries s)) (omega (arith, length-tabulate (s .args .count) (entryAt (s .args .heads .now) (s .args .bytes .now))))
-
-type-is : (s : tie.Start) (id : ℕ) → id < s .args .count → getD (s .args .heads .now) (4 * id + 2) 0 ≡ getD (entries s) id defaultEntry .type
-unfolding entryAt
-type-is s id h = sym (ap (λ (e : Entry). e .type) (getD-tabulate (s .args .count) (entryAt (s .args .heads .now) (s .args .bytes .now)) id defaultEntry h))
+not-held s id h = le-ltb id (length (entries s)) (omega (arith, length-entries (memory s)))
 
 behind-kind-requires : tie.Need-behind-kind-requires
 behind-kind-requires c κs = search needs
@@ -45,39 +45,40 @@ enum-known-id c = search needs
 enum-told : tie.Need-enum-told
 enum-told c = search needs
 
+fault-at-requires : tie.Need-fault-at-requires
+fault-at-requires c κs = search needs
+
 returns : tie.Need-returns
 returns c =
-    let s = c .before .before .before .before .before .before in
-    sym (update-short (λ id. ltb id (length (entries s))) (λ id. getD (entries s) id defaultEntry .type) (s .args .m .now) (number-missing (s .args .m .now) 1 (sym (c .enum-told .given .1) ∙ c .before .before .behind-kind .ensures)))
+    let e = c .before in
+    let s = e .before .before .before .before .before .before in
+    rw (c .fault-at .ensures)
+    (sym (update-short (λ id. ltb id (length (entries s))) (λ id. getD (entries s) id defaultEntry .type) (s .args .m .now) (number-missing (s .args .m .now) 1 (sym (e .enum-told .given .1) ∙ e .before .before .behind-kind .ensures))))
+
+fault-at-requires-2 : tie.Need-fault-at-requires-2
+fault-at-requires-2 c κs = search needs
 
 returns-2 : tie.Need-returns-2
 unfolding to-start
 returns-2 c =
-    let i = c .before .before in
+    let i = c .before .before .before in
     let s = to-start i in
     let h = id-there i in
-    sym (update-unknown (λ id. ltb id (length (entries s))) (λ id. getD (entries s) id defaultEntry .type) (s .args .m .now) (i .id .given .0 .0) (h .0) (h .1) (not-held s (i .id .given .0 .0) (c .if1 .taken)))
+    rw (c .fault-at2 .ensures)
+    (sym (update-unknown (λ id. ltb id (length (entries s))) (λ id. getD (entries s) id defaultEntry .type) (s .args .m .now) (i .id .given .0 .0) (h .0) (h .1) (not-held s (i .id .given .0 .0) (c .before .if1 .taken))))
 
-cast-type-at : tie.Need-cast-type-at
-cast-type-at c = search needs
+cast-type-of : tie.Need-cast-type-of
+cast-type-of c = search needs
 
-mul-type-at : tie.Need-mul-type-at
-mul-type-at c = search needs
+type-of-requires : tie.Need-type-of-requires
+type-of-requires c κs = search needs
 
-add-type-at : tie.Need-add-type-at
-add-type-at c = search needs
-
-mul-type-code : tie.Need-mul-type-code
-mul-type-code c = search needs
-
-shared-slice-read-type-code : tie.Need-shared-slice-read-type-code
-shared-slice-read-type-code c = search needs
-
-cast-type-code : tie.Need-cast-type-code
-unfolding to-start
-cast-type-code c =
+cast-read-update : tie.Need-cast-read-update
+unfolding to-start entryAt
+cast-read-update c =
     let i = c .before .before .before in
-    omega (arith, to-start i .pre .types-fit (i .id .given .0 .0) (c .before .if1 .left))
+    let s = to-start i in
+    omega (arith, s .pre .types-fit (i .id .given .0 .0) (c .before .if1 .left), c .type-of .ensures (s .args .bytes .now))
 
 read-update-requires : tie.Need-read-update-requires
 read-update-requires c κs = search needs
@@ -89,7 +90,7 @@ returns-3 c =
     let s = to-start i in
     let h = id-there i in
     c .read-update .ensures
-    ∙ sym (update-held (λ id. ltb id (length (entries s))) (λ id. getD (entries s) id defaultEntry .type) (s .args .m .now) (i .id .given .0 .0) _ (h .0) (h .1) (held s (i .id .given .0 .0) (c .before .before .if1 .left)) (type-is s (i .id .given .0 .0) (c .before .before .if1 .left)))
+    ∙ sym (update-held (λ id. ltb id (length (entries s))) (λ id. getD (entries s) id defaultEntry .type) (s .args .m .now) (i .id .given .0 .0) _ (h .0) (h .1) (held s (i .id .given .0 .0) (c .before .before .if1 .left)) (c .before .type-of .ensures (s .args .bytes .now) ∙ sym (type-get (memory s) (i .id .given .0 .0) defaultEntry (c .before .before .if1 .left))))
 
 pub read-held-update-spec : {M : Type 1} → statement M
 read-held-update-spec =
@@ -98,13 +99,12 @@ read-held-update-spec =
     behind-kind-requires
     enum-known-id
     enum-told
+    fault-at-requires
     returns
+    fault-at-requires-2
     returns-2
-    cast-type-at
-    mul-type-at
-    add-type-at
-    mul-type-code
-    shared-slice-read-type-code
-    cast-type-code
+    cast-type-of
+    type-of-requires
+    cast-read-update
     read-update-requires
     returns-3)

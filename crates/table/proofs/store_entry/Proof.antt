@@ -1,5 +1,5 @@
-use Prim.Native.Nat.{_*_}
-use native.Mathlib.Nat.{add-zero}
+-- `store_entry` meets its contract: its stores are those of the definition, one by one.
+use mathlib.Core.Path.{refl}
 use native.Mathlib.Omega.{arith}
 use lib.ListN.{length-set}
 use Rattle.table.specs.Table.{headsWithEntry, bytesWithEntry}
@@ -16,6 +16,9 @@ mul-name-at c = search needs
 cast-heads : tie.Need-cast-heads
 cast-heads c = search needs
 
+add-heads : tie.Need-add-heads
+add-heads c = search needs
+
 mul-heads : tie.Need-mul-heads
 mul-heads c = search needs
 
@@ -25,8 +28,8 @@ slice-write-heads c = search needs
 cast-heads-2 : tie.Need-cast-heads-2
 cast-heads-2 c = search needs
 
-add-heads : tie.Need-add-heads
-add-heads c = search needs
+add-heads-2 : tie.Need-add-heads-2
+add-heads-2 c = search needs
 
 mul-heads-2 : tie.Need-mul-heads-2
 mul-heads-2 c = search needs
@@ -34,8 +37,8 @@ mul-heads-2 c = search needs
 slice-write-heads-2 : tie.Need-slice-write-heads-2
 slice-write-heads-2 c = simp length-set (omega arith)
 
-add-heads-2 : tie.Need-add-heads-2
-add-heads-2 c = search needs
+add-heads-3 : tie.Need-add-heads-3
+add-heads-3 c = search needs
 
 mul-heads-3 : tie.Need-mul-heads-3
 mul-heads-3 c = search needs
@@ -43,8 +46,8 @@ mul-heads-3 c = search needs
 slice-write-heads-3 : tie.Need-slice-write-heads-3
 slice-write-heads-3 c = simp length-set (omega arith)
 
-add-heads-3 : tie.Need-add-heads-3
-add-heads-3 c = search needs
+add-heads-4 : tie.Need-add-heads-4
+add-heads-4 c = search needs
 
 mul-heads-4 : tie.Need-mul-heads-4
 mul-heads-4 c = search needs
@@ -72,8 +75,7 @@ unfolding headsWithEntry bytesWithEntry
 returns c =
     let second = c .before .before in
     let first = second .before .before .before .before in
-    let a = first .before .before .before .before .before .before .args in
-    (rw (add-zero (4 * a .id)), rw (← (first .copy-into .ensures)) (second .copy-into2 .ensures))
+    (refl, rw (← (first .copy-into .ensures)) (second .copy-into2 .ensures))
 
 pub store-entry-spec : {M : Type 1} → statement M
 store-entry-spec =
@@ -82,16 +84,17 @@ store-entry-spec =
     mul-head
     mul-name-at
     cast-heads
+    add-heads
     mul-heads
     slice-write-heads
     cast-heads-2
-    add-heads
+    add-heads-2
     mul-heads-2
     slice-write-heads-2
-    add-heads-2
+    add-heads-3
     mul-heads-3
     slice-write-heads-3
-    add-heads-3
+    add-heads-4
     mul-heads-4
     slice-write-heads-4
     copy-into-requires

@@ -1,3 +1,4 @@
+-- `store_value` meets its contract: its stores are those of the definition, one by one.
 use mathlib.Core.Path.{refl}
 use native.Mathlib.Omega.{arith}
 use lib.ListN.{length-set}

@@ -1,2 +1,0 @@
-pub mod RecipientLaws
-pub mod HelloLaws

@@ -1,2 +1,0 @@
-pub mod Recipients
-pub mod Hello
