@@ -1,26 +1,38 @@
-// The client half: a copy of the server's table, kept from the server's messages.
+// The client half: a copy of the server's table, kept from the server's messages. A call judges soundness, judges, and performs.
+use answer::Answer;
+use field::Fault;
 use field::INCOMPLETE;
 use field::NAME_TAKEN;
 use field::Number;
 use field::Octet;
 use field::TABLE_FULL;
+use field::UNKNOWN_KIND;
 use field::UNSOUND;
+use field::fault_at;
+use message::ASSIGNMENT_FIXED;
+use message::ASSIGNMENT_NAME_START;
 use message::AllowedId;
 use message::AssignmentRead;
+use message::KIND_SIZE;
+use message::REVISION_LENGTH;
+use message::UPDATE_VALUE_START;
 use message::UpdateRead;
 ghost use mathlib.Core.Path.{_≡_};
 ghost use mathlib.Core.Bool.{true};
-ghost use mathlib.Core.List.{List};
-ghost use Prim.Native.Nat.{ℕ, _≤_};
+ghost use Prim.Native.Nat.{ℕ, _+_, _≤_};
 ghost use lib.ListN.{length};
-ghost use Rattle.message.specs.Reader.{idAllowed, parseAssignment};
-ghost use Rattle.table.specs.Table.{tableMemory, entriesOf, parseHeldUpdate, maxEntries};
-ghost use Rattle.soundness.specs.Sound.{soundTable};
-ghost use Rattle.client.specs.Copy.{judgeCopyAssignment, judgeCopyUpdate, judgeUnsupported, judgeCopy, executeCopy, copyMessage, copyFreshStart};
-ghost use Rattle.client.specs.Answers.{resultOf};
 ghost use Rattle.field.specs.Answer.{done, ignored};
+ghost use Rattle.value.specs.Value.{maxValueSize};
+ghost use Rattle.message.specs.Layout.{kindSize, maxNameLength};
+ghost use Rattle.message.specs.Lent.{lentEntry};
+ghost use Rattle.message.specs.Reader.{idAllowed, parseAssignment};
+ghost use Rattle.table.specs.Table.{Holds, lent, entriesOf, storeEntry, parseHeldUpdate, maxEntries};
+ghost use Rattle.soundness.specs.Sound.{soundTable};
+ghost use Rattle.protocol.specs.Copy.{judgeCopyAssignment, judgeCopyUpdate, judgeUnsupported, judgeCopy};
+ghost use Rattle.protocol.specs.Copy.{executeCopy, copyMessage, copyFreshStart};
+ghost use Rattle.client.specs.Lent.{copied, copyStartOf, copyVerdictOf, Copyable, DecidesCopy};
 
-// What reading a message into the copy answers: 01's number, the revision of 0x02, bytes taken.
+// What reading a message into the copy answers: the number, the revision of 0x02, bytes taken.
 #[repr(C)]
 pub struct Copied {
     pub number: u8,
@@ -28,11 +40,11 @@ pub struct Copied {
     pub taken: usize,
 }
 
-fn refused(number: u8) -> Copied
-    ensures { λ r. ⌜ r ≡ record { number = number; revision = 0; taken = 0 } ⌝ }
+fn refused(fault: Fault) -> Copied
+    ensures { λ r. ⌜ r ≡ record { number = fault .number; revision = 0; taken = 0 } ⌝ }
 {
     Copied {
-        number: number,
+        number: fault.number,
         revision: 0,
         taken: 0,
     }
@@ -58,150 +70,249 @@ fn stored(taken: usize) -> Copied
     }
 }
 
-fn refused_assignment(read: AssignmentRead) -> Copied
-    ensures { λ r. ⌜ ((number place : ℕ) → read ≡ AssignmentRead.Refused number place → r ≡ record { number = number; revision = 0; taken = 0 }) ⌝ }
-{
-    match read {
-        AssignmentRead::Refused(number, _) => refused(number),
-        AssignmentRead::Assignment {
-            name_length: _,
-            type_code: _,
-            id: _,
-            number: _,
-            value_length: _,
-        } => refused(INCOMPLETE),
-    }
-}
+// ---- what a message comes to
 
-fn refused_update(read: UpdateRead) -> Copied
-    ensures { λ r. ⌜ ((number place : ℕ) → read ≡ UpdateRead.Refused number place → r ≡ record { number = number; revision = 0; taken = 0 }) ⌝ }
-{
-    match read {
-        UpdateRead::Refused(number, _) => refused(number),
-        UpdateRead::Update {
-            id: _,
-            number: _,
-            value_length: _,
-        } => refused(INCOMPLETE),
-    }
+// A verdict on a message. Names and values stay in the message.
+pub enum CopyDecision {
+    Refuse(Fault),
+    Ignore {
+        taken: usize,
+        revision: u16,
+    },
+    StoreNew {
+        name_length: usize,
+        type_code: u8,
+        number: u16,
+        value_length: usize,
+    },
+    StoreUpdate {
+        id: u16,
+        number: u16,
+        value_length: usize,
+    },
 }
 
 // An assignment: a new entry with the ID that comes next, stored with its number.
-fn copy_assignment(heads: &mut [u16], bytes: &mut [u8], count: &mut u16, m: &[u8]) -> Copied
-    requires { ⌜ (soundTable maxEntries (tableMemory (now heads) (now bytes) (now count)) ≡ true) × (1 ≤ length (now m)) ⌝ }
-    ensures { λ r. ⌜ resultOf r (now (heads .exit)) (now (bytes .exit)) (now (count .exit)) ≡ executeCopy (tableMemory (now (heads .entry)) (now (bytes .entry)) (now (count .entry))) (judgeCopyAssignment maxEntries (entriesOf (tableMemory (now (heads .entry)) (now (bytes .entry)) (now (count .entry)))) (now (m .entry)) (parseAssignment (idAllowed (AllowedId.Only (now (count .entry)))) (now (m .entry)))) ⌝ }
+fn judge_assignment(heads: &[u16], bytes: &[u8], count: u16, m: &[u8]) -> CopyDecision
+    requires sound { ⌜ soundTable maxEntries (lent heads bytes count) ≡ true ⌝ }
+    requires kind { ⌜ kindSize ≤ length (now m) ⌝ }
+    ensures { λ r.
+        ⌜ DecidesCopy count (now (m .entry)) r
+        (judgeCopyAssignment maxEntries (entriesOf (lent (heads .entry) (bytes .entry) count)) (now (m .entry))
+        (parseAssignment (idAllowed (AllowedId.Only count)) (now (m .entry)))) ⌝ }
 {
-    let next = *count;
-    let read = message::read_assignment(m, AllowedId::Only(next));
-    let AssignmentRead::Assignment {
-        name_length,
-        type_code,
-        id: _,
-        number,
-        value_length,
-    } = read
-    else {
-        return refused_assignment(read);
-    };
-    let name_end = 3 + name_length;
-    let value_at = 8 + name_length;
-    let taken = value_at + value_length;
-    let n = next as usize;
-    if table::find_name(heads, bytes, n, &m[3..name_end]) < n {
-        return refused(NAME_TAKEN);
+    match message::read_assignment(m, AllowedId::Only(count)) {
+        AssignmentRead::Refused(fault) => CopyDecision::Refuse(fault),
+        AssignmentRead::Assignment {
+            name_length,
+            type_code,
+            id: _,
+            number,
+            value_length,
+        } => {
+            let name_end = ASSIGNMENT_NAME_START + name_length;
+            let n = count as usize;
+            if table::find_name(heads, bytes, n, &m[ASSIGNMENT_NAME_START..name_end]) < n {
+                return CopyDecision::Refuse(fault_at(NAME_TAKEN, 0));
+            }
+            if n >= table::MAX_ENTRIES {
+                return CopyDecision::Refuse(fault_at(TABLE_FULL, 0));
+            }
+            CopyDecision::StoreNew {
+                name_length: name_length,
+                type_code: type_code,
+                number: number,
+                value_length: value_length,
+            }
+        }
     }
-    if n >= table::MAX_ENTRIES {
-        return refused(TABLE_FULL);
-    }
-    table::store_entry(
-        heads,
-        bytes,
-        n,
-        &m[3..name_end],
-        type_code as u16,
-        number,
-        &m[value_at..taken],
-    );
-    *count = next + 1;
-    stored(taken)
 }
 
 // An update of a held ID: always stored.
-fn copy_update(heads: &mut [u16], bytes: &mut [u8], count: u16, m: &[u8]) -> Copied
-    requires { ⌜ soundTable maxEntries (tableMemory (now heads) (now bytes) count) ≡ true ⌝ }
-    ensures { λ r. ⌜ resultOf r (now (heads .exit)) (now (bytes .exit)) count ≡ executeCopy (tableMemory (now (heads .entry)) (now (bytes .entry)) count) (judgeCopyUpdate (now (m .entry)) (parseHeldUpdate (entriesOf (tableMemory (now (heads .entry)) (now (bytes .entry)) count)) (now (m .entry)))) ⌝ }
+fn judge_update(heads: &[u16], bytes: &[u8], count: u16, m: &[u8]) -> CopyDecision
+    requires { ⌜ soundTable maxEntries (lent heads bytes count) ≡ true ⌝ }
+    ensures { λ r.
+        ⌜ DecidesCopy count (now (m .entry)) r
+        (judgeCopyUpdate (now (m .entry))
+        (parseHeldUpdate (entriesOf (lent (heads .entry) (bytes .entry) count)) (now (m .entry)))) ⌝ }
 {
-    let read = table::read_held_update(heads, bytes, count, m);
-    let UpdateRead::Update {
-        id,
-        number,
-        value_length,
-    } = read
-    else {
-        return refused_update(read);
-    };
-    let taken = 5 + value_length;
-    table::store_value(heads, bytes, id as usize, number, &m[5..taken]);
-    stored(taken)
+    match table::read_held_update(heads, bytes, count, m) {
+        UpdateRead::Refused(fault) => CopyDecision::Refuse(fault),
+        UpdateRead::Update {
+            id,
+            number,
+            value_length,
+        } => CopyDecision::StoreUpdate {
+            id: id,
+            number: number,
+            value_length: value_length,
+        },
+    }
 }
 
 // The server speaks another revision, which is reported.
-fn copy_unsupported(m: &[u8]) -> Copied
-    ensures { λ r. ⌜ ((heads bytes : List ℕ) (count : ℕ) → resultOf r heads bytes count ≡ executeCopy (tableMemory heads bytes count) (judgeUnsupported (now (m .entry)))) ⌝ }
+fn judge_unsupported(m: &[u8]) -> CopyDecision
+    ensures { λ r. ⌜ ((count : ℕ) → DecidesCopy count (now (m .entry)) r (judgeUnsupported (now (m .entry)))) ⌝ }
 {
     let Number::There(revision) = reader::behind_kind(m) else {
-        return refused(INCOMPLETE);
+        return CopyDecision::Refuse(fault_at(INCOMPLETE, KIND_SIZE));
     };
-    ignored(3, revision)
+    CopyDecision::Ignore {
+        taken: REVISION_LENGTH,
+        revision: revision,
+    }
 }
 
-// A message of a sound copy.
-fn copy_kind(heads: &mut [u16], bytes: &mut [u8], count: &mut u16, m: &[u8]) -> Copied
-    requires { ⌜ soundTable maxEntries (tableMemory (now heads) (now bytes) (now count)) ≡ true ⌝ }
-    ensures { λ r. ⌜ resultOf r (now (heads .exit)) (now (bytes .exit)) (now (count .exit)) ≡ executeCopy (tableMemory (now (heads .entry)) (now (bytes .entry)) (now (count .entry))) (judgeCopy maxEntries (entriesOf (tableMemory (now (heads .entry)) (now (bytes .entry)) (now (count .entry)))) (now (m .entry))) ⌝ }
+// One message, in a sound copy.
+fn judge_copy(heads: &[u16], bytes: &[u8], count: u16, m: &[u8]) -> CopyDecision
+    requires { ⌜ soundTable maxEntries (lent heads bytes count) ≡ true ⌝ }
+    ensures { λ r.
+        ⌜ DecidesCopy count (now (m .entry)) r
+        (judgeCopy maxEntries (entriesOf (lent (heads .entry) (bytes .entry) count)) (now (m .entry))) ⌝ }
 {
     let Octet::There(kind) = reader::kind(m) else {
-        return refused(INCOMPLETE);
+        return CopyDecision::Refuse(fault_at(INCOMPLETE, 0));
     };
     if kind == message::KEEP_ALIVE {
-        return ignored(1, 0);
+        return CopyDecision::Ignore {
+            taken: KIND_SIZE,
+            revision: 0,
+        };
     }
     if kind == message::HELLO_COMPLETE {
-        return ignored(1, 0);
+        return CopyDecision::Ignore {
+            taken: KIND_SIZE,
+            revision: 0,
+        };
     }
     if kind == message::UNSUPPORTED {
-        return copy_unsupported(m);
+        return judge_unsupported(m);
     }
     if kind == message::ASSIGNMENT {
-        return copy_assignment(heads, bytes, count, m);
+        return judge_assignment(heads, bytes, count, m);
     }
     if kind == message::UPDATE {
-        return copy_update(heads, bytes, *count, m);
+        return judge_update(heads, bytes, count, m);
     }
-    refused(field::UNKNOWN_KIND)
+    CopyDecision::Refuse(fault_at(UNKNOWN_KIND, 0))
 }
 
-// The empty copy: only the count is set.
-pub fn copy_fresh(heads: &[u16], bytes: &[u8], count: &mut u16) -> u8
-    ensures { λ r. ⌜ r ≡ copyFreshStart maxEntries (tableMemory (now (heads .entry)) (now (bytes .entry)) (now (count .entry))) .number ⌝ }
-    ensures { λ _. ⌜ tableMemory (now (heads .entry)) (now (bytes .entry)) (now (count .exit)) ≡ copyFreshStart maxEntries (tableMemory (now (heads .entry)) (now (bytes .entry)) (now (count .entry))) .memory ⌝ }
+// ---- what a verdict does
+
+// A new entry with the next ID.
+fn store_new(
+    heads: &mut [u16],
+    bytes: &mut [u8],
+    count: &mut u16,
+    name: &[u8],
+    type_code: u8,
+    number: u16,
+    value: &[u8],
+)
+    requires memory { ⌜ Holds (now count + 1) (now heads) (now bytes) × (now count + 1 ≤ maxEntries) ⌝ }
+    requires lengths { ⌜ (length (now name) ≤ maxNameLength) × (length (now value) ≤ maxValueSize) ⌝ }
+    ensures { λ _.
+        ⌜ lent (heads .exit) (bytes .exit) (now (count .exit))
+        ≡ storeEntry (lent (heads .entry) (bytes .entry) (now (count .entry)))
+        (lentEntry (name .entry) «type_code» number (value .entry)) ⌝ }
 {
-    if heads.len() < table::HEAD_SIZE * table::MAX_ENTRIES {
-        return UNSOUND;
+    let id = *count;
+    table::store_entry(
+        heads,
+        bytes,
+        id as usize,
+        name,
+        type_code as u16,
+        number,
+        value,
+    );
+    *count = id + 1;
+}
+
+// A decision on a message m.
+fn perform(
+    heads: &mut [u16],
+    bytes: &mut [u8],
+    count: &mut u16,
+    m: &[u8],
+    decision: CopyDecision,
+) -> Copied
+    requires sound { ⌜ soundTable maxEntries (lent heads bytes (now count)) ≡ true ⌝ }
+    requires performable { ⌜ Copyable (now count) (now m) decision ⌝ }
+    ensures { λ r.
+        ⌜ copied r (lent (heads .exit) (bytes .exit) (now (count .exit)))
+        ≡ executeCopy (lent (heads .entry) (bytes .entry) (now (count .entry))) (copyVerdictOf (now (m .entry)) decision) ⌝ }
+{
+    match decision {
+        CopyDecision::Refuse(fault) => refused(fault),
+        CopyDecision::Ignore { taken, revision } => ignored(taken, revision),
+        CopyDecision::StoreNew {
+            name_length,
+            type_code,
+            number,
+            value_length,
+        } => {
+            let name_end = ASSIGNMENT_NAME_START + name_length;
+            let value_at = ASSIGNMENT_FIXED + name_length;
+            let taken = value_at + value_length;
+            store_new(
+                heads,
+                bytes,
+                count,
+                &m[ASSIGNMENT_NAME_START..name_end],
+                type_code,
+                number,
+                &m[value_at..taken],
+            );
+            stored(taken)
+        }
+        CopyDecision::StoreUpdate {
+            id,
+            number,
+            value_length,
+        } => {
+            let taken = UPDATE_VALUE_START + value_length;
+            table::store_value(
+                heads,
+                bytes,
+                id as usize,
+                number,
+                &m[UPDATE_VALUE_START..taken],
+            );
+            stored(taken)
+        }
     }
-    if bytes.len() < table::ENTRY_SIZE * table::MAX_ENTRIES {
-        return UNSOUND;
+}
+
+// ---- the calls
+
+// The empty copy: only the count is set.
+pub fn copy_fresh(heads: &[u16], bytes: &[u8], count: &mut u16) -> Answer
+    ensures answer { λ r.
+        ⌜ r ≡ copyStartOf (copyFreshStart maxEntries (lent (heads .entry) (bytes .entry) (now (count .entry)))) ⌝ }
+    ensures memory { λ _.
+        ⌜ lent (heads .entry) (bytes .entry) (now (count .exit))
+        ≡ copyFreshStart maxEntries (lent (heads .entry) (bytes .entry) (now (count .entry))) .memory ⌝ }
+{
+    if heads.len() < table::HEADS_SIZE {
+        return answer::refused(fault_at(UNSOUND, 0));
+    }
+    if bytes.len() < table::BYTES_SIZE {
+        return answer::refused(fault_at(UNSOUND, 0));
     }
     *count = 0;
-    field::DONE
+    answer::done(0, 0, 0)
 }
 
 // One message from the server.
 pub fn copy_receive(heads: &mut [u16], bytes: &mut [u8], count: &mut u16, m: &[u8]) -> Copied
-    ensures { λ r. ⌜ resultOf r (now (heads .exit)) (now (bytes .exit)) (now (count .exit)) ≡ copyMessage maxEntries (tableMemory (now (heads .entry)) (now (bytes .entry)) (now (count .entry))) (now (m .entry)) ⌝ }
+    ensures { λ r.
+        ⌜ copied r (lent (heads .exit) (bytes .exit) (now (count .exit)))
+        ≡ copyMessage maxEntries (lent (heads .entry) (bytes .entry) (now (count .entry))) (now (m .entry)) ⌝ }
 {
     if !soundness::table_is_sound(heads, bytes, *count) {
-        return refused(UNSOUND);
+        return refused(fault_at(UNSOUND, 0));
     }
-    copy_kind(heads, bytes, count, m)
+    let decision = judge_copy(heads, bytes, *count, m);
+    perform(heads, bytes, count, m, decision)
 }

@@ -17,16 +17,16 @@ use Rattle.value.specs.Value.{IsValue}
 use Rattle.message.specs.Layout.{Entry, WellFormed, updateKind, unsupportedKind, assignmentBytes, updateBytes, revisionBytes}
 use Rattle.table.specs.Names.{nameHeld}
 use Rattle.table.specs.Table.{entriesOf, defaultEntry, storeEntry, storeValue}
-use Rattle.answers.specs.Recipients.{Recipients, nobody, sender, allGreeted, isRecipient, recipientSet}
-use Rattle.answers.specs.Hello.{helloAnswer}
-use Rattle.server.specs.Judge.{Call, leave, clientMessage, Verdict, refuse, ignore, readDone, openMark, closeMark, acceptHello, unsupportedRevision, storeNew, storeUpdate, protocolRevision, judge}
-use Rattle.server.specs.Step.{ServerMemory, LentCall, CallResult, answer, withMark, withTable, execute, callStep}
-use Rattle.convergence.specs.Run.{addressedByCall, leavesOrUpdates}
-use Rattle.answers.proofs.RecipientLaws.{recipient-bit}
+use Rattle.answer.specs.Recipients.{Recipients, nobody, sender, allGreeted, isRecipient, recipientSet}
+use Rattle.hello.specs.Hello.{helloAnswer}
+use Rattle.protocol.specs.Judge.{Call, leave, clientMessage, Verdict, refuse, ignore, readDone, openMark, closeMark, acceptHello, unsupportedRevision, storeNew, storeUpdate, protocolRevision, judge}
+use Rattle.protocol.specs.Step.{ServerMemory, LentCall, CallResult, answer, withMark, withTable, execute, callStep}
+use Rattle.protocol.specs.Run.{addressedByCall, leavesOrUpdates}
+use Rattle.answer.proofs.RecipientLaws.{recipient-bit}
 use Rattle.table.proofs.TabulateLaws.{length-entries}
 use Rattle.soundness.proofs.StoredLaws.{stored-new, stored-value}
-use Rattle.server.proofs.JudgeLaws.{SentTo, local-write, client-update, VerdictIs, verdict-is}
-use Rattle.server.proofs.SoundnessLaws.{SoundMemory, step-is}
+use Rattle.protocol.proofs.JudgeLaws.{SentTo, local-write, client-update, VerdictIs, verdict-is}
+use Rattle.protocol.proofs.SoundnessLaws.{SoundMemory, step-is}
 use Rattle.convergence.proofs.Leads.{Leads, leads-none, leads-assignment, leads-update}
 
 -- ---- the bytes that are addressed to a client
@@ -135,7 +135,7 @@ module _ (limit : ℕ) (call : Call) (mem : ServerMemory) (s : SoundMemory limit
 
   execute-follows : (out : List ℕ) (v : Verdict) → VerdictIs limit (entriesOf (mem .table)) (mem .marks) call v → Follows limit call mem (execute mem out v)
   unfolding execute
-  execute-follows out (refuse number) f = follows-quiet number 0 out
+  execute-follows out (refuse fault) f = follows-quiet (fault .number) 0 out
   execute-follows out (ignore taken) f = follows-quiet 16 taken out
   execute-follows out readDone f = follows-answer out 0 [] nobody mem (λ c g q. unfold pick in nothing c g)
   execute-follows out (openMark d) (VerdictIs.opened b h) = follows-mark out 0 d 0 1 [] nobody h (omega arith) (λ c ne. refl)

@@ -6,10 +6,10 @@ use native.Mathlib.Omega.{arith}
 use lib.ListN.{getD}
 use Rattle.field.proofs.ChoiceLaws.{by-test}
 use Rattle.table.specs.Table.{entriesOf}
-use Rattle.server.specs.Judge.{Verdict, refuse, acceptHello}
-use Rattle.server.specs.Step.{ServerMemory, LentCall, CallResult, execute, callStep, freshStart}
-use Rattle.convergence.specs.Run.{memoryAfterRun, afterStartAndCalls, helloCall, StaysWithoutOwnUpdate}
-use Rattle.server.proofs.SoundnessLaws.{SoundMemory, sound-kept, start-sound}
+use Rattle.protocol.specs.Judge.{Verdict, refuse, acceptHello}
+use Rattle.protocol.specs.Step.{ServerMemory, LentCall, CallResult, execute, callStep, freshStart}
+use Rattle.protocol.specs.Run.{memoryAfterRun, afterStartAndCalls, helloCall, StaysWithoutOwnUpdate}
+use Rattle.protocol.proofs.SoundnessLaws.{SoundMemory, sound-kept, start-sound}
 use Rattle.convergence.proofs.RunLaws.{sound-run, run-follows}
 use Rattle.convergence.proofs.HelloLaws.{HelloIs, hello-is, hello-accepted}
 
@@ -18,7 +18,7 @@ record NotDone (r : CallResult) : Type 0 where
 
 hello-refused : (mem : ServerMemory) (c : ℕ) (out : List ℕ) (v : Verdict) → HelloIs (mem .marks) c v → getD (mem .marks) c 0 ≡ 2 → NotDone (execute mem out v)
 unfolding execute
-hello-refused mem c out (refuse number) (HelloIs.refused h) g = record { at-done = λ e. omega arith }
+hello-refused mem c out (refuse fault) (HelloIs.refused h) g = record { at-done = λ e. omega arith }
 hello-refused mem c out (acceptHello d) (HelloIs.welcomed h) g = absurd (omega arith)
 
 -- "Hello: open connections only (3 if greeted)": a hello of a greeted client is not answered 0, whatever the table holds

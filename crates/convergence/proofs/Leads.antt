@@ -14,11 +14,11 @@ use Rattle.table.specs.Names.{nameHeld, namesDiffer}
 use Rattle.table.specs.Table.{TableMemory, defaultEntry}
 use Rattle.table.proofs.StoreLaws.{withNumberAndValue}
 use Rattle.table.proofs.NamesLaws.{differ-last, held-append}
-use Rattle.answers.specs.Hello.{helloAnswer}
-use Rattle.client.specs.Copy.{copyMessage}
-use Rattle.convergence.specs.Run.{ReadsInto, none-left, one-read}
+use Rattle.hello.specs.Hello.{helloAnswer}
+use Rattle.protocol.specs.Copy.{copyMessage}
+use Rattle.convergence.specs.Demand.{ReadsInto, none-left, one-read}
 use Rattle.soundness.proofs.StoredLaws.{AllWellFormed}
-use Rattle.client.proofs.CopyLaws.{Holding, Takes, copies-complete, copies-assignment, copies-update}
+use Rattle.protocol.proofs.CopyLaws.{Holding, Takes, copies-complete, copies-assignment, copies-update}
 
 -- all the bytes are read, and the copy then holds these entries
 pub record Reaches (limit : ℕ) (m : TableMemory) (bytes : List ℕ) (es : List Entry) : Type 0 where

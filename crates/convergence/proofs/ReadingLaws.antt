@@ -4,7 +4,7 @@ use mathlib.Core.List.{List}
 use Prim.Native.Nat.{ℕ}
 use native.Mathlib.Omega.{arith}
 use Rattle.table.specs.Table.{TableMemory}
-use Rattle.convergence.specs.Run.{ReadsInto, none-left, one-read}
+use Rattle.convergence.specs.Demand.{ReadsInto, none-left, one-read}
 
 pub one-end : (limit : ℕ) {m x y : TableMemory} {bytes : List ℕ} → ReadsInto limit m bytes x → ReadsInto limit m bytes y → x ≡ y
 one-end limit none-left none-left = refl

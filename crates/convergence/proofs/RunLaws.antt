@@ -4,9 +4,9 @@ use mathlib.Core.List.{List, [], _∷_, _++_}
 use Prim.Native.Nat.{ℕ, _<_}
 use lib.ListN.{getD}
 use Rattle.table.specs.Table.{entriesOf}
-use Rattle.server.specs.Step.{ServerMemory, LentCall, callStep}
-use Rattle.convergence.specs.Run.{memoryAfterRun, addressedBytes, StaysWithoutOwnUpdate}
-use Rattle.server.proofs.SoundnessLaws.{SoundMemory, sound-kept}
+use Rattle.protocol.specs.Step.{ServerMemory, LentCall, callStep}
+use Rattle.protocol.specs.Run.{memoryAfterRun, addressedBytes, StaysWithoutOwnUpdate}
+use Rattle.protocol.proofs.SoundnessLaws.{SoundMemory, sound-kept}
 use Rattle.convergence.proofs.Leads.{Leads, leads-none, leads-join}
 use Rattle.convergence.proofs.CallLaws.{call-follows}
 

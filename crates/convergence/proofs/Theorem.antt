@@ -8,12 +8,13 @@ use lib.ListN.{length, getD}
 use Rattle.message.specs.Layout.{Entry}
 use Rattle.table.specs.Table.{TableMemory, entriesOf, defaultEntry}
 use Rattle.soundness.specs.Sound.{soundTable}
-use Rattle.server.specs.Step.{ServerMemory, LentCall, callStep, freshStart}
-use Rattle.client.specs.Copy.{copyFreshStart}
-use Rattle.convergence.specs.Run.{memoryAfterRun, afterStartAndCalls, addressedBytes, helloCall, StaysWithoutOwnUpdate, SameEntries, CopyHoldsServerEntries, Demand3}
+use Rattle.protocol.specs.Step.{ServerMemory, LentCall, callStep, freshStart}
+use Rattle.protocol.specs.Copy.{copyFreshStart}
+use Rattle.protocol.specs.Run.{memoryAfterRun, afterStartAndCalls, addressedBytes, helloCall, StaysWithoutOwnUpdate}
+use Rattle.convergence.specs.Demand.{SameEntries, CopyHoldsServerEntries, Demand3}
 use Rattle.table.proofs.TabulateLaws.{length-entries, entry-get}
-use Rattle.client.proofs.CopyLaws.{copy-start-sound}
-use Rattle.server.proofs.SoundnessLaws.{SoundMemory, sound-kept, start-sound}
+use Rattle.protocol.proofs.CopyLaws.{copy-start-sound}
+use Rattle.protocol.proofs.SoundnessLaws.{SoundMemory, sound-kept, start-sound}
 use Rattle.convergence.proofs.Leads.{leads-join, leads-end}
 use Rattle.convergence.proofs.RunLaws.{sound-run, run-append, run-follows}
 use Rattle.convergence.proofs.HelloLaws.{hello-accepted}

@@ -1,29 +1,51 @@
-use Rattle.soundness.specs.Sound.{largeEnough}
-use Rattle.field.specs.Choice.{pick}
-use Rattle.client.specs.Copy.{copyFreshStart}
-use borrow.Author.Tests.{le-leb, lt-leb}
+-- `copy_fresh` makes the fresh start of a copy: the two sizes decide as the definition does.
 use mathlib.Core.Path.{refl}
+use borrow.Author.Tests.{lt-leb, le-leb}
+use Rattle.field.specs.Choice.{pick}
+use Rattle.soundness.specs.Sound.{largeEnough}
+use Rattle.protocol.specs.Copy.{copyFreshStart}
 use borrow.Author.Needs.{needs}
 use Rattle.client.proofs.copy_fresh.Statement.{statement}
 use Rattle.client.proofs.copy_fresh.Tie as tie
 
-mul-if1 : tie.Need-mul-if1
-mul-if1 c = search needs
+fault-at-requires : tie.Need-fault-at-requires
+fault-at-requires c κs = search needs
+
+refused-requires : tie.Need-refused-requires
+refused-requires c κs = search needs
 
 returns : tie.Need-returns
 unfolding copyFreshStart largeEnough pick
-returns c = rw (lt-leb _ _ (c .if1 .taken)) (refl, refl)
+returns c = rw (c .refused .ensures, c .before .fault-at .ensures, lt-leb _ _ (c .before .before .if1 .taken)) (refl, refl)
 
-mul-if2 : tie.Need-mul-if2
-mul-if2 c = search needs
+fault-at-requires-2 : tie.Need-fault-at-requires-2
+fault-at-requires-2 c κs = search needs
+
+refused-requires-2 : tie.Need-refused-requires-2
+refused-requires-2 c κs = search needs
 
 returns-2 : tie.Need-returns-2
 unfolding copyFreshStart largeEnough pick
-returns-2 c = rw (le-leb _ _ (c .before .if1 .left), lt-leb _ _ (c .if2 .taken)) (refl, refl)
+returns-2 c =
+    let t = c .before .before in
+    rw (c .refused2 .ensures, c .before .fault-at2 .ensures, le-leb _ _ (t .before .if1 .left), lt-leb _ _ (t .if2 .taken)) (refl, refl)
+
+done-requires : tie.Need-done-requires
+done-requires c κs = search needs
 
 returns-3 : tie.Need-returns-3
 unfolding copyFreshStart largeEnough pick
-returns-3 c = rw (le-leb _ _ (c .before .if1 .left), le-leb _ _ (c .if2 .left)) (refl, refl)
+returns-3 c = rw (c .done .ensures, le-leb _ _ (c .before .before .if1 .left), le-leb _ _ (c .before .if2 .left)) (refl, refl)
 
 pub copy-fresh-spec : {M : Type 1} → statement M
-copy-fresh-spec = tie.close (tie.spec mul-if1 returns mul-if2 returns-2 returns-3)
+copy-fresh-spec =
+    tie.close
+    (tie.spec
+    fault-at-requires
+    refused-requires
+    returns
+    fault-at-requires-2
+    refused-requires-2
+    returns-2
+    done-requires
+    returns-3)

@@ -1,13 +1,30 @@
-use mathlib.Core.Path.{sym, _∙_}
+-- `copy_receive` is the copy's step: soundness decides, then the verdict is performed.
+use mathlib.Core.Path.{_≡_, sym, _∙_}
+use mathlib.Core.Bool.{true}
 use borrow.Author.Tests.{not-true, not-false}
 use Rattle.field.specs.Choice.{pick}
-use Rattle.client.specs.Copy.{copyMessage, executeCopy}
+use Rattle.table.specs.Table.{TableMemory, tableMemory, maxEntries}
+use Rattle.soundness.specs.Sound.{soundTable}
+use Rattle.protocol.specs.Copy.{executeCopy, copyMessage}
 use borrow.Author.Needs.{needs}
 use Rattle.client.proofs.copy_receive.Statement.{statement}
 use Rattle.client.proofs.copy_receive.Tie as tie
 
+abbrev memory : tie.Start → TableMemory
+memory s = tableMemory (s .args .heads .now) (s .args .bytes .now) (s .args .count .now)
+
+to-start : tie.Else1 → tie.Start
+to-start c = c .before .before .before .before .before .before .before .before
+
+sound : (c : tie.Else1) → soundTable maxEntries (memory (to-start c)) ≡ true
+unfolding to-start
+sound c = sym (c .before .table-is-sound .ensures) ∙ not-false (c .before .table-is-sound .result) (c .if1 .left)
+
 table-is-sound-requires : tie.Need-table-is-sound-requires
 table-is-sound-requires c κs = search needs
+
+fault-at-requires : tie.Need-fault-at-requires
+fault-at-requires c κs = search needs
 
 refused-requires : tie.Need-refused-requires
 refused-requires c κs = search needs
@@ -20,10 +37,19 @@ same-length-2 c = search needs
 
 returns : tie.Need-returns
 unfolding copyMessage executeCopy pick
-returns c = rw (c .refused .ensures, ← (c .before .before .table-is-sound .ensures), not-true (c .before .before .table-is-sound .result) (c .before .if1 .taken))
+returns c =
+    let t = c .before .before in
+    rw (c .refused .ensures, c .before .fault-at .ensures, ← (t .before .table-is-sound .ensures), not-true (t .before .table-is-sound .result) (t .if1 .taken))
 
-copy-kind-requires : tie.Need-copy-kind-requires
-copy-kind-requires c κs = let e = c .before .before .before in sym (e .before .table-is-sound .ensures) ∙ not-false (e .before .table-is-sound .result) (e .if1 .left)
+judge-copy-requires : tie.Need-judge-copy-requires
+unfolding to-start
+judge-copy-requires c κs = sound (c .before .before)
+
+perform-requires : tie.Need-perform-requires
+unfolding to-start
+perform-requires c κs =
+    let j = c .before .before .before in
+    (sound (j .before .before .before), j .judge-copy .ensures .copyable)
 
 same-length-3 : tie.Need-same-length-3
 same-length-3 c = search needs
@@ -32,22 +58,24 @@ same-length-4 : tie.Need-same-length-4
 same-length-4 c = search needs
 
 returns-2 : tie.Need-returns-2
-unfolding copyMessage pick
+unfolding copyMessage pick to-start
 returns-2 c =
     let k = c .before .before .before .before in
-    let e = k .before .before .before .before in
-    rw (← (e .before .table-is-sound .ensures), not-false (e .before .table-is-sound .result) (e .if1 .left)) (k .copy-kind .ensures)
+    let j = k .before .before .before .before in
+    rw (sound (j .before .before .before), ← (j .judge-copy .ensures .verdict)) (k .perform .ensures)
 
 pub copy-receive-spec : {M : Type 1} → statement M
 copy-receive-spec =
     tie.close
     (tie.spec
     table-is-sound-requires
+    fault-at-requires
     refused-requires
     same-length
     same-length-2
     returns
-    copy-kind-requires
+    judge-copy-requires
+    perform-requires
     same-length-3
     same-length-4
     returns-2)

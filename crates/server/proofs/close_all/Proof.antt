@@ -1,3 +1,4 @@
+-- `close_all` closes all connections: a loop whose invariant is that those so far are closed.
 use mathlib.Core.Path.{_≡_, refl, ap, _∙_}
 use mathlib.Core.List.{List, [], _∷_}
 use Prim.Native.Nat.{ℕ, _+_, _-_, _≤_}

@@ -1,19 +1,56 @@
-use mathlib.Core.Path.{sym, _∙_}
+-- `create` is the step of a local create: soundness decides, then the verdict is performed.
+use mathlib.Core.Path.{_≡_, sym, ap, _∙_}
+use mathlib.Core.Bool.{true, _&&_}
+use Prim.Native.Nat.{_≤_}
+use lib.ListN.{length}
 use borrow.Author.Tests.{not-true, not-false}
 use Rattle.field.specs.Choice.{pick}
-use Rattle.table.specs.Table.{tableMemory}
+use Rattle.table.specs.Table.{TableMemory, tableMemory, maxEntries}
+use Rattle.soundness.specs.Sound.{connections, soundTable, soundMarks}
 use Rattle.soundness.proofs.ReadableLaws.{table-sound, sixteen-marks}
-use Rattle.server.specs.Judge.{judge}
-use Rattle.server.specs.Step.{callStep}
+use Rattle.protocol.specs.Step.{callStep}
+use Rattle.judge.specs.declared.CreateDecision.{CreateDecision}
+use Rattle.judge.specs.Decision.{createVerdict}
+use Rattle.judge.proofs.DecisionLaws.{known-creatable}
+use Rattle.table.specs.Table.{entriesOf}
+use Rattle.protocol.specs.Judge.{localCreate, judge}
+use Rattle.protocol.specs.Step.{execute}
 use borrow.Author.Needs.{needs}
 use Rattle.server.proofs.create.Statement.{statement}
 use Rattle.server.proofs.create.Tie as tie
 
+abbrev memory : tie.Start → TableMemory
+memory s = tableMemory (s .args .heads .now) (s .args .bytes .now) (s .args .count .now)
+
+to-start : tie.Else1 → tie.Start
+to-start c = c .before .before .before .before .before .before .before .before .before .before .before
+
+both : (c : tie.Else1) → (soundTable maxEntries (memory (to-start c)) && soundMarks (to-start c .args .marks .now)) ≡ true
+unfolding to-start
+both c = sym (c .before .is-sound .ensures) ∙ not-false (c .before .is-sound .result) (c .if1 .left)
+
+-- the table is sound, and there are 16 marks
+sound : (c : tie.Else1) → (soundTable maxEntries (memory (to-start c)) ≡ true) × (connections ≤ length (to-start c .args .marks .now))
+sound c = (table-sound (memory (to-start c)) (to-start c .args .marks .now) (both c), sixteen-marks (memory (to-start c)) (to-start c .args .marks .now) (both c))
+
+to-sound : tie.After-judge-create → tie.Else1
+to-sound c = c .before .before .before
+
+-- the verdict is the one that was decided
+decided : (c : tie.After-judge-create) (d : CreateDecision) → c .judge-create .result ≡ d →
+    let s = to-start (to-sound c) in
+    judge maxEntries (entriesOf (memory s)) (s .args .marks .now) (localCreate (s .args .name .now) (s .args .type-code) (s .args .value .now))
+    ≡ createVerdict (s .args .name .now) (s .args .type-code) (s .args .value .now) d
+unfolding to-sound to-start
+decided c d e =
+    let s = to-start (to-sound c) in
+    sym (c .judge-create .ensures (s .args .marks .now) .verdict) ∙ ap (λ (x : CreateDecision). createVerdict (s .args .name .now) (s .args .type-code) (s .args .value .now) x) e
+
 is-sound-requires : tie.Need-is-sound-requires
 is-sound-requires c κs = search needs
 
-refused-requires : tie.Need-refused-requires
-refused-requires c κs = search needs
+unsound-requires : tie.Need-unsound-requires
+unsound-requires c κs = search needs
 
 same-length : tie.Need-same-length
 same-length c = search needs
@@ -23,15 +60,30 @@ same-length-2 c = search needs
 
 returns : tie.Need-returns
 unfolding callStep pick
-returns c = rw (c .refused .ensures, ← (c .before .before .is-sound .ensures), not-true (c .before .before .is-sound .result) (c .before .if1 .taken))
+returns c = rw (c .unsound .ensures, ← (c .before .before .is-sound .ensures), not-true (c .before .before .is-sound .result) (c .before .if1 .taken))
 
-create-sound-requires : tie.Need-create-sound-requires
-create-sound-requires c κs =
-    let e = c .before .before .before .before in
-    let s = e .before .before .before .before .before .before .before .before .before .before .before in
-    let h = sym (e .before .is-sound .ensures) ∙ not-false (e .before .is-sound .result) (e .if1 .left) in
-    let t = tableMemory (s .args .heads .now) (s .args .bytes .now) (s .args .count .now) in
-    (table-sound t (s .args .marks .now) h, sixteen-marks t (s .args .marks .now) h)
+judge-create-requires : tie.Need-judge-create-requires
+unfolding to-start
+judge-create-requires c κs = sound (c .before .before) .0
+
+enum-known-fault : tie.Need-enum-known-fault
+enum-known-fault c = search needs
+
+refused-requires : tie.Need-refused-requires
+refused-requires c κs = search needs
+
+enum-told : tie.Need-enum-told
+enum-told c = search needs
+
+store-new-requires : tie.Need-store-new-requires
+unfolding to-start to-sound
+store-new-requires c κs =
+    let t = c .before .before .before .before in
+    let j = t .before .before in
+    let s = to-start (to-sound j) in
+    let h = sound (to-sound j) in
+    let w = known-creatable (s .args .count .now) (s .args .name .now) (s .args .value .now) (j .judge-create .result) _ (t .enum-told .given .1) (j .judge-create .ensures (s .args .marks .now) .creatable) in
+    (h .0, ((w .0, h .1), (w .1, w .2)))
 
 same-length-3 : tie.Need-same-length-3
 same-length-3 c = search needs
@@ -39,27 +91,48 @@ same-length-3 c = search needs
 same-length-4 : tie.Need-same-length-4
 same-length-4 c = search needs
 
+returns-2 : tie.Need-returns-2
+unfolding callStep execute pick to-start to-sound
+returns-2 c =
+    let n = c .before .before in
+    let j = n .before .before in
+    rw (c .refused .ensures, both (to-sound j), decided j _ (n .fault .given .1))
+
 same-length-5 : tie.Need-same-length-5
 same-length-5 c = search needs
 
-returns-2 : tie.Need-returns-2
-unfolding callStep judge pick
-returns-2 c =
+same-length-6 : tie.Need-same-length-6
+same-length-6 c = search needs
+
+same-length-7 : tie.Need-same-length-7
+same-length-7 c = search needs
+
+returns-3 : tie.Need-returns-3
+unfolding callStep pick to-start to-sound
+returns-3 c =
     let k = c .before .before .before .before .before .before in
-    let e = k .before .before .before .before .before in
-    rw (← (e .before .is-sound .ensures), not-false (e .before .is-sound .result) (e .if1 .left)) (k .create-sound .ensures)
+    let t = k .before .before .before .before .before in
+    let j = t .before .before in
+    rw (both (to-sound j), decided j _ (t .enum-told .given .1)) (k .store-new .ensures)
 
 pub create-spec : {M : Type 1} → statement M
 create-spec =
     tie.close
     (tie.spec
     is-sound-requires
-    refused-requires
+    unsound-requires
     same-length
     same-length-2
     returns
-    create-sound-requires
+    judge-create-requires
+    enum-known-fault
+    refused-requires
+    enum-told
+    store-new-requires
     same-length-3
     same-length-4
+    returns-2
     same-length-5
-    returns-2)
+    same-length-6
+    same-length-7
+    returns-3)

@@ -1,3 +1,4 @@
+-- `is_sound` is the test of the definition: slices that go on as parts of themselves are the same lists.
 use mathlib.Core.Path.{_≡_}
 use borrow.Author.Tests.{not-true, not-false}
 use borrow.Author.Needs.{needs}

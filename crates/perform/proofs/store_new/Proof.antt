@@ -1,0 +1,98 @@
+-- `store_new` does what the verdict on a new entry does: the assignment is sent, and the entry stored behind the others.
+use Prim.Native.Nat.{_+_}
+use native.Mathlib.Omega.{arith}
+use lib.ListN.{length}
+use borrow.Author.Tests.{lt-leb, le-leb}
+use Rattle.field.specs.Choice.{pick}
+use Rattle.sequence.specs.SequenceNumber.{start}
+use Rattle.message.specs.Layout.{Entry, assignmentBytes}
+use Rattle.message.proofs.ReadBack.{length-assignment}
+use Rattle.table.specs.Table.{TableMemory, tableMemory, storeEntry, maxEntries}
+use Rattle.table.proofs.SearchLaws.{holds-less}
+use Rattle.soundness.proofs.ReadableLaws.{sound-holds}
+use Rattle.protocol.specs.Step.{execute}
+use borrow.Author.Needs.{needs}
+use Rattle.perform.proofs.store_new.Statement.{statement}
+use Rattle.perform.proofs.store_new.Tie as tie
+
+abbrev memory : tie.Start → TableMemory
+memory s = tableMemory (s .args .heads .now) (s .args .bytes .now) (s .args .count .now)
+
+abbrev new : tie.Start → Entry
+new s = record { name = s .args .name .now; type = s .args .type-code; number = start; value = s .args .value .now }
+
+add-if1 : tie.Need-add-if1
+add-if1 c = search needs
+
+add-if1-2 : tie.Need-add-if1-2
+add-if1-2 c = search needs
+
+fault-at-requires : tie.Need-fault-at-requires
+fault-at-requires c κs = search needs
+
+refused-requires : tie.Need-refused-requires
+refused-requires c κs = search needs
+
+returns : tie.Need-returns
+unfolding execute pick
+returns c =
+    let t = c .before .before in
+    let s = t .before .before .before .before .before .before .before .before in
+    let id = s .args .count .now in
+    rw (c .refused .ensures, c .before .fault-at .ensures, lt-leb (length (assignmentBytes id (new s))) (length (s .args .out .now)) (omega (arith, t .if1 .taken, length-assignment id (new s))))
+
+all-greeted-requires : tie.Need-all-greeted-requires
+all-greeted-requires c κs = search needs
+
+write-assignment-requires : tie.Need-write-assignment-requires
+write-assignment-requires c κs = search needs
+
+store-entry-requires : tie.Need-store-entry-requires
+store-entry-requires c κs =
+    let s = c .before .before .before .before .before .before .before .before .before .before .before .before .before .before .before in
+    (holds-less (s .args .count .now + 1) (omega (arith, s .pre .1 .0 .0)) (sound-holds maxEntries (memory s) (s .pre .0)), s .pre .1 .1)
+
+add-count : tie.Need-add-count
+add-count c = search needs
+
+done-requires : tie.Need-done-requires
+done-requires c κs = search needs
+
+same-length : tie.Need-same-length
+same-length c = search needs
+
+same-length-2 : tie.Need-same-length-2
+same-length-2 c = search needs
+
+same-length-3 : tie.Need-same-length-3
+same-length-3 c = search needs
+
+returns-2 : tie.Need-returns-2
+unfolding execute storeEntry pick
+returns-2 c =
+    let w = c .before .before .before .before .before in
+    let u = w .before .before .before .before .before in
+    let g = u .before .before in
+    let e = g .before in
+    let s = e .before .before .before .before .before .before .before .before in
+    let id = s .args .count .now in
+    rw (c .done .ensures, w .store-entry .ensures .0, w .store-entry .ensures .1, u .write-assignment .ensures .0, u .write-assignment .ensures .1, g .all-greeted .ensures, le-leb (length (assignmentBytes id (new s))) (length (s .args .out .now)) (omega (arith, e .if1 .left, length-assignment id (new s))))
+
+pub store-new-spec : {M : Type 1} → statement M
+store-new-spec =
+    tie.close
+    (tie.spec
+    add-if1
+    add-if1-2
+    fault-at-requires
+    refused-requires
+    returns
+    all-greeted-requires
+    write-assignment-requires
+    store-entry-requires
+    add-count
+    done-requires
+    same-length
+    same-length-2
+    same-length-3
+    returns-2)

@@ -1,0 +1,230 @@
+// What a verdict does: the answer, the output, and lent memory afterwards.
+use answer::Answer;
+use field::OUTPUT_TOO_SHORT;
+use field::fault_at;
+use judge::Decision;
+use judge::MarkDecision;
+use message::ASSIGNMENT_FIXED;
+use message::ASSIGNMENT_NAME_START;
+use message::REVISION_LENGTH;
+use message::UPDATE_VALUE_START;
+use sequence::SequenceNumber;
+ghost use mathlib.Core.Path.{_≡_};
+ghost use mathlib.Core.Bool.{true};
+ghost use Prim.Native.Nat.{ℕ, _+_, _≤_, _<_};
+ghost use mathlib.Core.List.{List};
+ghost use lib.ListN.{length, set};
+ghost use Rattle.field.specs.Answer.{done};
+ghost use Rattle.table.specs.Table.{TableMemory, Holds, lent, maxEntries};
+ghost use Rattle.message.specs.Layout.{maxNameLength};
+ghost use Rattle.message.specs.Lent.{lentEntry};
+ghost use Rattle.answer.specs.Recipients.{Recipients, recipientSet};
+ghost use Rattle.soundness.specs.Sound.{soundTable, connections};
+ghost use Rattle.protocol.specs.Judge.{acceptHello, unsupportedRevision, storeNew, storeUpdate};
+ghost use Rattle.protocol.specs.Step.{execute};
+ghost use Rattle.protocol.specs.Lent.{besideMarks, lentServer, answered};
+ghost use Rattle.judge.specs.Decision.{verdictOf, Performable, markVerdict, Markable};
+ghost use Rattle.value.specs.Value.{maxValueSize};
+ghost use Rattle.sequence.specs.SequenceNumber.{start};
+
+// ---- marks
+
+// Another mark of a connection: nothing is sent.
+fn put_mark(marks: &mut [u8], c: usize, mark: u8) -> Answer
+    requires { ⌜ (c < connections) × (connections ≤ length (now marks)) ⌝ }
+    ensures answer { λ r. ⌜ r ≡ record { number = done; recipients = 0; taken = 0; sent = 0 } ⌝ }
+    ensures marks { λ _. ⌜ now (marks .exit) ≡ set (now (marks .entry)) c mark ⌝ }
+{
+    marks[c] = mark;
+    answer::done(0, 0, 0)
+}
+
+// A decision on opening or leaving.
+pub fn perform_mark(marks: &mut [u8], c: usize, decision: MarkDecision) -> Answer
+    requires marks { ⌜ connections ≤ length (now marks) ⌝ }
+    requires performable { ⌜ Markable c decision ⌝ }
+    ensures { λ r.
+        ⌜ ((table : TableMemory) (out : List ℕ) →
+        answered r (besideMarks table (marks .exit)) out
+        ≡ execute (besideMarks table (marks .entry)) out (markVerdict c decision)) ⌝ }
+{
+    match decision {
+        MarkDecision::Refuse(fault) => answer::refused(fault),
+        MarkDecision::Open => put_mark(marks, c, soundness::OPEN),
+        MarkDecision::Close => put_mark(marks, c, soundness::CLOSED),
+    }
+}
+
+// ---- hellos
+
+// A hello for 2.0: all entries to the sender, who is then greeted.
+fn greet(
+    heads: &[u16],
+    bytes: &[u8],
+    count: u16,
+    marks: &mut [u8],
+    c: usize,
+    out: &mut [u8],
+) -> Answer
+    requires sound { ⌜ (c < connections) × (soundTable maxEntries (lent heads bytes count) ≡ true) ⌝ }
+    requires marks { ⌜ connections ≤ length (now marks) ⌝ }
+    ensures { λ r.
+        ⌜ answered r (lentServer (heads .entry) (bytes .entry) count (marks .exit)) (now (out .exit))
+        ≡ execute (lentServer (heads .entry) (bytes .entry) count (marks .entry)) (now (out .entry)) (acceptHello c) ⌝ }
+{
+    let length = hello::hello_length(heads, bytes, count);
+    if out.len() < length {
+        return answer::refused(fault_at(OUTPUT_TOO_SHORT, 0));
+    }
+    let recipients = answer::only_sender(marks, c);
+    let sent = hello::write_hello(heads, bytes, count, out);
+    marks[c] = soundness::GREETED;
+    answer::done(recipients, REVISION_LENGTH, sent)
+}
+
+// A hello for another revision: the sender is told which one is spoken, and closed.
+fn turn_away(marks: &mut [u8], c: usize, out: &mut [u8]) -> Answer
+    requires { ⌜ (c < connections) × (connections ≤ length (now marks)) ⌝ }
+    ensures { λ r.
+        ⌜ ((table : TableMemory) →
+        answered r (besideMarks table (marks .exit)) (now (out .exit))
+        ≡ execute (besideMarks table (marks .entry)) (now (out .entry)) (unsupportedRevision c)) ⌝ }
+{
+    if out.len() < REVISION_LENGTH {
+        return answer::refused(fault_at(OUTPUT_TOO_SHORT, 0));
+    }
+    let recipients = answer::only_sender(marks, c);
+    let sent = encoder::write_revision(out, message::UNSUPPORTED, judge::REVISION);
+    marks[c] = soundness::CLOSED;
+    answer::done(recipients, REVISION_LENGTH, sent)
+}
+
+// ---- entries
+
+// A new entry with the next ID, to all greeted connections.
+pub fn store_new(
+    heads: &mut [u16],
+    bytes: &mut [u8],
+    count: &mut u16,
+    marks: &[u8],
+    name: &[u8],
+    type_code: u8,
+    value: &[u8],
+    taken: usize,
+    out: &mut [u8],
+) -> Answer
+    requires sound { ⌜ soundTable maxEntries (lent heads bytes (now count)) ≡ true ⌝ }
+    requires room { ⌜ (now count < maxEntries) × (connections ≤ length (now marks)) ⌝ }
+    requires lengths { ⌜ (length (now name) ≤ maxNameLength) × (length (now value) ≤ maxValueSize) ⌝ }
+    ensures { λ r.
+        ⌜ answered r (lentServer (heads .exit) (bytes .exit) (now (count .exit)) (marks .entry)) (now (out .exit))
+        ≡ execute (lentServer (heads .entry) (bytes .entry) (now (count .entry)) (marks .entry)) (now (out .entry))
+        (storeNew (lentEntry (name .entry) «type_code» start (value .entry)) taken) ⌝ }
+{
+    let id = *count;
+    if out.len() < ASSIGNMENT_FIXED + name.len() + value.len() {
+        return answer::refused(fault_at(OUTPUT_TOO_SHORT, 0));
+    }
+    let number = SequenceNumber::START;
+    let recipients = answer::all_greeted(marks);
+    let sent = encoder::write_assignment(out, name, type_code, id, number, value);
+    table::store_entry(
+        heads,
+        bytes,
+        id as usize,
+        name,
+        type_code as u16,
+        number,
+        value,
+    );
+    *count = id + 1;
+    answer::done(recipients, taken, sent)
+}
+
+// Another number and value of an entry, to those of a set.
+pub fn store_update(
+    heads: &mut [u16],
+    bytes: &mut [u8],
+    id: u16,
+    number: u16,
+    value: &[u8],
+    taken: usize,
+    recipients: u16,
+    out: &mut [u8],
+) -> Answer
+    requires memory { ⌜ Holds (id + 1) (now heads) (now bytes) ⌝ }
+    requires lengths { ⌜ length (now value) ≤ maxValueSize ⌝ }
+    ensures { λ r.
+        ⌜ ((count : ℕ) (marks : List ℕ) (to : Recipients) → recipients ≡ recipientSet to marks →
+        answered r (record { table = lent (heads .exit) (bytes .exit) count; marks = marks }) (now (out .exit))
+        ≡ execute (record { table = lent (heads .entry) (bytes .entry) count; marks = marks }) (now (out .entry))
+        (storeUpdate id number (now (value .entry)) taken to)) ⌝ }
+{
+    if out.len() < UPDATE_VALUE_START + value.len() {
+        return answer::refused(fault_at(OUTPUT_TOO_SHORT, 0));
+    }
+    let sent = encoder::write_update(out, id, number, value);
+    table::store_value(heads, bytes, id as usize, number, value);
+    answer::done(recipients, taken, sent)
+}
+
+// ---- a client's message
+
+// A decision on a client's message m.
+pub fn perform(
+    heads: &mut [u16],
+    bytes: &mut [u8],
+    count: &mut u16,
+    marks: &mut [u8],
+    m: &[u8],
+    decision: Decision,
+    out: &mut [u8],
+) -> Answer
+    requires sound { ⌜ soundTable maxEntries (lent heads bytes (now count)) ≡ true ⌝ }
+    requires marks { ⌜ connections ≤ length (now marks) ⌝ }
+    requires performable { ⌜ Performable (now count) (now m) decision ⌝ }
+    ensures { λ r.
+        ⌜ answered r (lentServer (heads .exit) (bytes .exit) (now (count .exit)) (marks .exit)) (now (out .exit))
+        ≡ execute (lentServer (heads .entry) (bytes .entry) (now (count .entry)) (marks .entry)) (now (out .entry))
+        (verdictOf (now (m .entry)) decision) ⌝ }
+{
+    match decision {
+        Decision::Refuse(fault) => answer::refused(fault),
+        Decision::Ignore(taken) => answer::ignored(taken),
+        Decision::AcceptHello(c) => greet(heads, bytes, *count, marks, c, out),
+        Decision::UnsupportedRevision(c) => turn_away(marks, c, out),
+        Decision::StoreNew {
+            type_code,
+            name_length,
+            value_length,
+        } => {
+            let name_end = ASSIGNMENT_NAME_START + name_length;
+            let value_at = ASSIGNMENT_FIXED + name_length;
+            let taken = value_at + value_length;
+            let name = &m[ASSIGNMENT_NAME_START..name_end];
+            let value = &m[value_at..taken];
+            store_new(
+                heads,
+                bytes,
+                count,
+                marks,
+                name,
+                type_code,
+                value,
+                taken,
+                out,
+            )
+        }
+        Decision::StoreUpdate {
+            id,
+            number,
+            value_length,
+            sender,
+        } => {
+            let taken = UPDATE_VALUE_START + value_length;
+            let value = &m[UPDATE_VALUE_START..taken];
+            let recipients = answer::other_greeted(marks, sender);
+            store_update(heads, bytes, id, number, value, taken, recipients, out)
+        }
+    }
+}

@@ -1,0 +1,9 @@
+pub mod JudgeLaws
+pub mod SoundnessLaws
+pub mod AnswerLaws
+pub mod ReadLaws
+pub mod ChangeLaws
+pub mod Computed
+pub mod ComputedCalls
+pub mod CopyLaws
+pub mod ComputedCopy

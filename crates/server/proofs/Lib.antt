@@ -1,5 +1,0 @@
-pub mod JudgeLaws
-pub mod SoundnessLaws
-pub mod AnswerLaws
-pub mod ReadLaws
-pub mod ChangeLaws
