@@ -6,39 +6,41 @@ use Prim.Native.Nat.{ℕ, _<_}
 use lib.ListN.{length}
 use borrow.Author.Tests.{lt-leb}
 use Rattle.field.specs.Choice.{pick}
-use Rattle.scalar.specs.declared.Scalar.the-variants.{Refused}
-use Rattle.table.specs.Table.{tableMemory}
+use Rattle.table.specs.Table.{maxEntries, tableMemory}
+use Rattle.heads.specs.Heads.{headNumbers}
 use Rattle.soundness.specs.Sound.{largeEnough, soundTable}
-use Rattle.server.specs.Judge.{Call, openConnection, leave, clientMessage, localCreate, localWrite, readEntry}
-use Rattle.server.specs.Step.{LentCall, soundFor, callStep, freshStart, readScalar}
-use Rattle.server.specs.Answers.{serverMemory, resultOf, startOf}
-use Rattle.client.specs.Copy.{executeCopy, copyMessage, copyFreshStart}
-use Rattle.client.specs.Answers.{resultOf as copyResultOf}
-use Rattle.nt2.specs.Answers.{sentAnswer, scalarAnswer, copyStartOf}
+use Rattle.protocol.specs.Judge.{Call, openConnection, leave, clientMessage, localCreate, localWrite, readEntry}
+use Rattle.protocol.specs.Step.{LentCall, soundFor, callStep, freshStart, readScalar}
+use Rattle.protocol.specs.Lent.{serverMemory, answered, startOf}
+use Rattle.protocol.specs.Copy.{executeCopy, copyMessage, copyFreshStart}
+use Rattle.client.specs.Lent.{copied}
+use Rattle.nt2.proofs.Results.{tooFew, copiedNothing, readNothing}
+use Rattle.flat.specs.Answers.{scalarAnswer}
+use Rattle.client.specs.Lent.{copyStartOf}
 
-module _ (heads bytes : List ℕ) (count : ℕ) (few : length heads < 256) where
-  table-few : soundTable 64 (tableMemory heads bytes count) ≡ false
+module _ (heads bytes : List ℕ) (count : ℕ) (few : length heads < headNumbers) where
+  table-few : soundTable maxEntries (tableMemory heads bytes count) ≡ false
   unfolding soundTable largeEnough
-  table-few = rw (lt-leb 256 (length heads) few)
+  table-few = rw (lt-leb headNumbers (length heads) few)
 
-  pub read-few : (id : ℕ) → scalarAnswer (Refused 14) ≡ scalarAnswer (readScalar 64 (tableMemory heads bytes count) id)
+  pub read-few : (id : ℕ) → readNothing ≡ scalarAnswer (readScalar maxEntries (tableMemory heads bytes count) id)
   unfolding readScalar pick
   read-few id = rw table-few
 
-  pub copy-few : (message : List ℕ) → copyResultOf (record { number = 14; revision = 0; taken = 0 }) heads bytes count ≡ copyMessage 64 (tableMemory heads bytes count) message
+  pub copy-few : (message : List ℕ) → copied (copiedNothing) (tableMemory heads bytes count) ≡ copyMessage maxEntries (tableMemory heads bytes count) message
   unfolding copyMessage executeCopy pick
   copy-few message = rw table-few
 
-  pub copy-fresh-few : (sentAnswer 14 0 ≡ copyStartOf (copyFreshStart 64 (tableMemory heads bytes count))) × (tableMemory heads bytes count ≡ copyFreshStart 64 (tableMemory heads bytes count) .memory)
+  pub copy-fresh-few : (tooFew ≡ copyStartOf (copyFreshStart maxEntries (tableMemory heads bytes count))) × (tableMemory heads bytes count ≡ copyFreshStart maxEntries (tableMemory heads bytes count) .memory)
   unfolding copyFreshStart largeEnough pick
-  copy-fresh-few = (rw (lt-leb 256 (length heads) few), rw (lt-leb 256 (length heads) few))
+  copy-fresh-few = (rw (lt-leb headNumbers (length heads) few), rw (lt-leb headNumbers (length heads) few))
 
   module _ (marks : List ℕ) where
-    pub fresh-few : (sentAnswer 14 0 ≡ startOf (freshStart 64 (serverMemory heads bytes count marks))) × (serverMemory heads bytes count marks ≡ freshStart 64 (serverMemory heads bytes count marks) .memory)
+    pub fresh-few : (tooFew ≡ startOf (freshStart maxEntries (serverMemory heads bytes count marks))) × (serverMemory heads bytes count marks ≡ freshStart maxEntries (serverMemory heads bytes count marks) .memory)
     unfolding freshStart largeEnough pick
-    fresh-few = (rw (lt-leb 256 (length heads) few), rw (lt-leb 256 (length heads) few))
+    fresh-few = (rw (lt-leb headNumbers (length heads) few), rw (lt-leb headNumbers (length heads) few))
 
-    sound-few : (call : Call) → soundFor 64 (serverMemory heads bytes count marks) call ≡ false
+    sound-few : (call : Call) → soundFor maxEntries (serverMemory heads bytes count marks) call ≡ false
     sound-few (openConnection c) = rw table-few
     sound-few (leave c) = rw table-few
     sound-few (clientMessage c m) = rw table-few
@@ -46,6 +48,6 @@ module _ (heads bytes : List ℕ) (count : ℕ) (few : length heads < 256) where
     sound-few (localWrite id value) = rw table-few
     sound-few (readEntry id) = table-few
 
-    pub call-few : (k : LentCall) → resultOf (sentAnswer 14 0) heads bytes count marks (k .output) ≡ callStep 64 (serverMemory heads bytes count marks) k
+    pub call-few : (k : LentCall) → answered (tooFew) (serverMemory heads bytes count marks) (k .output) ≡ callStep maxEntries (serverMemory heads bytes count marks) k
     unfolding callStep pick
     call-few k = rw (sound-few (k .call))

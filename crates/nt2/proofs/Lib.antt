@@ -1,12 +1,3 @@
-pub mod TakenLaws
-pub mod NumberLaws
+pub mod Results
 pub mod UnchangedLaws
 pub mod FewLaws
-pub mod HeadLaws
-pub mod Walk
-pub mod Leave
-pub mod Again
-pub mod Lend
-pub mod Boundary
-pub mod Calls
-pub mod Refuse

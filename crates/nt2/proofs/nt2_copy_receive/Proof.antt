@@ -1,25 +1,20 @@
--- `nt2::nt2_copy_receive` meets its contract: a walk of its MIR, by hand, with the steps of `Calls.antt`.
-use Rattle.nt2.proofs.Calls.{_≡_, refl, ℕ, List, [], _∷_, Holds, lit<, ltb→lt, nltb→le, length, URA, fullShare, named, w16, tyInt, tyArray, Val, WT, hasTy, SProp, id⊢, via, Fml, fsep, froom, flft, Heap, WpFn, Tables, Atoms, Fun, Lfts, toks, Given, ‵, raw, _⊛_, _$_, _∵_, !, qed, by, move, use1, look, init, store, stop, hop, fld, from, load, lit, addr, of-opd, bin, and-then, no-more, land, returns, enter, alloc1, alloc0, params1, pass1, pass0, fmOf, WpFn-mono, Is, Spells, valss, nothing-lawful, u8, u16, ptr-vals, mut-tells, sliceVal, MutSlice, slice-vals, shr-slice-tells, mut-slice-tells, typesAt, Meets, tripleOf, Contract, Triple, ends-at, Memory, Routine, givenOf, tables, tablesOf, agg, rep, whole, sub, look-in, entered, cited, #nt2·load, #nt2·store, stays, through, held, sets, opened, calls-core, exits, othersOwn, OthersLast, othersLast, load-known, store-known}
+-- `nt2::nt2_copy_receive` meets its contract: a walk of its MIR with the steps of `heads`.
+use Rattle.heads.proofs.Prelude.{maxEntries, headNumbers, _≡_, refl, ℕ, List, [], _∷_, length, URA, fullShare, named, SProp, id⊢, via, Fml, fsep, flft, Heap, WpFn, Tables, Atoms, Fun, Lfts, toks, Given, ‵, raw, _⊛_, _∵_, !, qed, fmOf, WpFn-mono, valss, u8, u16, sliceVal, MutSlice, typesAt, Meets, tripleOf, Contract, Triple, ends-at, walkOf, entered, cited, Memory, Routine, flatOf, length-flat, length-few, load-flat, length-stored, store-flat, store-rest, changed, stored, enters, spots, Kind, shared, lent, cell, number, spells, tell, passable-tail, stand, Load, Store, AllStand, nows, exits-early, through, stays, exits, othersOwn, OthersLast, othersLast, load-known, store-known, #heads·load, #heads·store, begun, finishes, lent-heads, Val, givenOf, tables, tablesOf}
+use denote.Struct.Laws as LL
+use Rattle.heads.proofs.Head as T
 use Rattle.table.specs.Table.{tableMemory}
-use Rattle.client.specs.Copy.{copyMessage}
-use Rattle.client.specs.Answers.{resultOf}
-use Rattle.nt2.specs.Heads.{changed, stored}
-use Rattle.nt2.proofs.HeadLaws.{zeros, length-zeros, flatOf, length-flat, length-few, load-flat, length-stored, store-flat, store-rest}
-use Rattle.nt2.proofs.FewLaws.{copy-few}
-use Rattle.nt2.proofs.UnchangedLaws.{copy-keeps}
-use Rattle.nt2.proofs.Head as T
-use Rattle.nt2.proofs.Lend.{typed, emptied}
-use Rattle.nt2.proofs.Leave.{end, keep, full, empty, front, apart, leaves}
-use Rattle.nt2.proofs.Boundary.{Load, Store, calls-load, calls-store}
-use Rattle.nt2.proofs.Refuse.{still, slice, ref, AllStand, nows, exits-early, refuses}
+use Rattle.protocol.specs.Copy.{copyMessage}
+use Rattle.client.specs.Lent.{copied}
 use Rattle.client.proofs.Copied as O
 use Rattle.client.proofs.Copied.Laws as O′
-use denote.Struct.Laws as LL
+use Rattle.nt2.proofs.FewLaws.{copy-few}
+use Rattle.nt2.proofs.Results.{copiedNothing, copiedNothing-is as few-is}
+use Rattle.nt2.proofs.UnchangedLaws.{copy-keeps}
 use Rattle.client.proofs.copy_receive as core′
 use Rattle.client.proofs.copy_receive.Symbol as core-def
-use Rattle.client.proofs.copy_receive.Symbol.{name as #client·copy-receive}
+use Rattle.client.proofs.copy_receive.Symbol.{name as #core}
 use Rattle.client.proofs.copy_receive.Met as core-thm
-use Rattle.nt2.proofs.nt2_copy_receive.Key.{name as #nt2·nt2-copy-receive}
+use Rattle.nt2.proofs.nt2_copy_receive.Key.{name as #key}
 use Rattle.nt2.proofs.nt2_copy_receive as fn′
 use Rattle.nt2.proofs.nt2_copy_receive.Statement as stated
 use Rattle.nt2.proofs.nt2_copy_receive.Code as code
@@ -27,67 +22,60 @@ use Rattle.nt2.proofs.nt2_copy_receive.Code as code
 abbrev Core : {M : Type 1} (𝓤 : URA M) (H : Heap 𝓤) (A : Atoms 𝓤) (at-mem : Memory → SProp 𝓤) (run : Routine → Fun 𝓤) → Contract 𝓤
 Core 𝓤 H A at-mem run = tripleOf 𝓤 H A core′.signature (core′.spec 𝓤 H A at-mem run)
 
-abbrev spells : (κs : Lfts 4) → Spells (typesAt (fn′.signature .params) κs)
-spells κs = (slice-vals, (slice-vals, (ptr-vals, (slice-vals, tt))))
+abbrev kinds : Lfts 4 → List Kind
+kinds κs =
+    lent (named 0) (κs .0) T.the-row
+    ∷ lent (named 1) (κs .1 .0) u8
+    ∷ cell (named 2) (κs .1 .1 .0) u16
+    ∷ shared (named 3) (κs .1 .1 .1 .0) u8
+    ∷ []
 
 module _ {M : Type 1} (𝓤 : URA M) (H : Heap 𝓤) (A : Atoms 𝓤) (W : Given 𝓤 H A) (at-mem : Memory → SProp 𝓤) (run : Routine → Fun 𝓤) (𝓣 : Tables 𝓤 H)
-    (known-load : Triple 𝓤 (𝓣 .C #nt2·load) (Load 𝓤 H A at-mem run)) (known-core : Triple 𝓤 (𝓣 .C #client·copy-receive) (Core 𝓤 H A at-mem run)) (known-store : Triple 𝓤 (𝓣 .C #nt2·store) (Store 𝓤 H A at-mem run)) where
-  returned : (r : O.the-row .Denot) (w : Val) → Is O.the-row r (w ∷ []) → Holds (hasTy O′.mir w) × WT w
-  returned r w is = LL.lawful O.the-type O′.the-laws 𝓤 H A W .typed r _ is .0
-
-  abbrev early : O.the-row .Denot
-  early = record { number = 14; revision = 0; taken = 0 }
-
-  refused : Is O.the-row early (O′.lowered early ∷ [])
-  refused = LL.owes O.the-type O′.the-laws early ((refl, lit< tt), ((refl, lit< tt), ((refl, lit< tt), tt)))
-
+    (known-load : Triple 𝓤 (𝓣 .C #heads·load) (Load 𝓤 H A at-mem run)) (known-store : Triple 𝓤 (𝓣 .C #heads·store) (Store 𝓤 H A at-mem run))
+    (known-core : Triple 𝓤 (𝓣 .C #core) (Core 𝓤 H A at-mem run)) where
   meets : Meets 𝓤 H A fn′.signature (WpFn 𝓤 H (𝓣 .C) (𝓣 .Λ) code.function) (fn′.spec 𝓤 H A at-mem run)
-  meets = through 𝓤 H A W fn′.ended (fn′.clauses 𝓤 H A at-mem run) (WpFn 𝓤 H (𝓣 .C) (𝓣 .Λ) code.function) (WpFn-mono 𝓤 H (W .laws) 𝓣 code.function) spells
-      (λ κs. (mut-slice-tells (named 0) (κs .0) T.the-row, (mut-slice-tells (named 1) (κs .1 .0) u8, (mut-tells (named 2) (κs .1 .1 .0) u16, (shr-slice-tells (named 3) (κs .1 .1 .1 .0) u8, tt))))) (λ κs qs bounds a g are.
+  meets = through 𝓤 H A W fn′.ended (fn′.clauses 𝓤 H A at-mem run) (WpFn 𝓤 H (𝓣 .C) (𝓣 .Λ) code.function) (WpFn-mono 𝓤 H (W .laws) 𝓣 code.function)
+      (λ κs. spells (kinds κs)) (λ κs. tell (kinds κs)) (λ κs qs bounds a g are.
       let fm = fmOf 𝓤 H (W .laws) 𝓣 in
       let hs = a .0 .now in
-      let vals = valss (typesAt (fn′.signature .params) κs) (spells κs) a in
+      let vals = valss (typesAt (fn′.signature .params) κs) (spells (kinds κs)) a in
+      let tokens = toks 𝓤 A 3 (κs .1) (qs .1) in
       let last : Type 0 = OthersLast (fn′.signature .params) (fn′.ended .kept) κs a in
       let says-last : last → Fml = othersLast (fn′.signature .params) (fn′.ended .kept) κs a in
-      let Said : O.the-row .Denot → List ℕ → last → Type 0 = λ r zs ws. resultOf r zs (ws .0) (ws .1 .0) ≡ copyMessage 64 (tableMemory (flatOf hs) (a .1 .0 .now) (a .1 .1 .0 .now)) (a .1 .1 .1 .0 .now) in
-      let stood : AllStand 𝓤 H A (fn′.signature .params) (fn′.ended .kept) κs a = (slice W (named 0) (κs .0) T.the-row (a .0), (slice W (named 1) (κs .1 .0) u8 (a .1 .0), (ref W (named 2) (κs .1 .1 .0) u16 (a .1 .1 .0), (still W, tt)))) in
-      let ends = ends-at 𝓤 H A fn′.ended (stays 𝓤 H A W fn′.ended (fn′.clauses 𝓤 H A at-mem run)) (fn′.clauses 𝓤 H A at-mem run) W ((κs, qs, bounds, a, vals), g) in
-      qed W ((‵ (flft (κs .0) (qs .0)) ⊛ raw (toks 𝓤 A 3 (κs .1) (qs .1))) ∷ ‵ (fsep (MutSlice (named 0) (κs .0) T.the-row .own (a .0) (sliceVal (a .0 .ptr) (length hs) ∷ [])) (othersOwn (fn′.signature .params) κs a vals)) ∷ []) ∵
-      enter ! (𝓣 .C) (𝓣 .Λ) code.function _ _ $
-      alloc1 ! (λ l₀. alloc1 ! (λ l₁. alloc1 ! (λ l₂. alloc1 ! (λ l₃. alloc1 ! (λ l₄. alloc1 ! (λ l₅. alloc1 ! (λ l₆. alloc1 ! (λ l₇. alloc1 ! (λ l₈. alloc1 ! (λ l₉. alloc1 ! (λ l₁₀. alloc1 ! (λ l₁₁. alloc1 ! (λ l₁₂. alloc1 ! (λ l₁₃. alloc1 ! (λ l₁₄. alloc1 ! (λ l₁₅. alloc1 ! (λ l₁₆. alloc1 ! (λ l₁₇. alloc1 ! (λ l₁₈. alloc1 ! (λ l₁₉. alloc1 ! (λ l₂₀. alloc1 ! (λ l₂₁. alloc1 ! (λ l₂₂. alloc0 ! $ params1 ! $
-      pass1 ! (init ! 42 refl (tt, (tt, (record { fits = are .0 .0 .1 .0 }, tt)))) $ pass1 ! (init ! 40 refl (tt, (tt, (record { fits = are .1 .0 .0 .1 .0 }, tt)))) $ pass1 ! (init ! 38 refl (tt, tt)) $ pass1 ! (init ! 36 refl (tt, (tt, (record { fits = are .1 .1 .1 .0 .0 .1 .0 }, tt)))) $ pass0 ! $
-      sets ! (of-opd ! (load ! (from ! (fld ! refl (stop !))) (look-in ! 42 (sub ! 1 refl (whole !))))) 30 refl (tt, record { fits = are .0 .0 .1 .0 }) $ sets ! (bin ! (held ! 30 refl) (lit ! tt) tt) 28 refl (tt, tt) $
-      refuses ! (held ! 28 refl) (agg ! (and-then ! (lit ! tt) (and-then ! (lit ! tt) (and-then ! (lit ! tt) (no-more !))))) 44 refl (returned early _ refused) refl (empty (empty (empty (empty (empty (empty (empty (empty (empty (empty (empty (empty (empty (empty (full (full (empty (empty (full (full (full (full (full (keep (keep end)))))))))))))))))))))))))
-      (λ few. via 𝓤 _ (exits-early 𝓤 H A W (fn′.signature .params) (fn′.ended .kept) κs a vals stood (κs .0) (qs .0) (toks 𝓤 A 3 (κs .1) (qs .1)) O.the-row (LL.makes O.the-type O′.the-plain 𝓤 H A) (early) _ (refused) _ (copy-few _ _ _ (length-few hs (ltb→lt _ _ few)) _, refl))
-      (ends (O′.lowered (early)) (early) (nows 𝓤 H A (fn′.signature .params) (fn′.ended .kept) κs a stood) (tt, (tt, (tt, (tt, tt)))))) (λ much. let enough = nltb→le _ _ much in
-      sets ! (rep ! 256 (lit ! tt)) 34 refl (typed 𝓤 H A W 256) $ move ! (46 ∷ 47 ∷ 34 ∷ []) $ opened ! l₅ $
-      sets ! (addr ! (from ! (fld ! refl (hop ! (look-in ! 46 (sub ! 0 refl (whole !))) (stop !))))) 29 refl (tt, tt) $ sets ! (agg ! (and-then ! (held ! 29 refl) (and-then ! (load ! (from ! (fld ! refl (stop !))) (look-in ! 46 (sub ! 1 refl (whole !)))) (no-more !)))) 27 refl (tt, (tt, (record { fits = are .0 .0 .1 .0 }, tt))) $
-      sets ! (addr ! (from ! (stop !))) 25 refl (tt, tt) $ sets ! (agg ! (and-then ! (held ! 25 refl) (and-then ! (lit ! tt) (no-more !)))) 23 refl (tt, (tt, (record { fits = lit< tt }, tt))) $
-      calls-load ! fm at-mem run known-load (named 0) (κs .0) (qs .0) (a .0 .name) (a .0 .ptr .0) (a .0 .ptr .1) (length hs) hs refl (are .0 .0 .1) enough l₅ zeros length-zeros (λ _ _ _ _. and-then ! (held ! 27 refl) (and-then ! (held ! 23 refl) (no-more !))) (λ v at.
-      land ! (from ! (stop !)) (init ! 31 refl (nothing-lawful 𝓤 H A W .typed tt _ at .0)) $
-      sets ! (addr ! (from ! (stop !))) 21 refl (tt, tt) $ sets ! (agg ! (and-then ! (held ! 21 refl) (and-then ! (lit ! tt) (no-more !)))) 19 refl (tt, (tt, (record { fits = lit< tt }, tt))) $
-      sets ! (addr ! (from ! (fld ! refl (hop ! (look-in ! 44 (sub ! 0 refl (whole !))) (stop !))))) 17 refl (tt, tt) $ sets ! (agg ! (and-then ! (held ! 17 refl) (and-then ! (load ! (from ! (fld ! refl (stop !))) (look-in ! 44 (sub ! 1 refl (whole !)))) (no-more !)))) 15 refl (tt, (tt, (record { fits = are .1 .0 .0 .1 .0 }, tt))) $
-      sets ! (addr ! (from ! (hop ! (look ! 42 refl) (stop !)))) 13 refl (tt, tt) $
-      calls-core ! fm (Core 𝓤 H A at-mem run) known-core _ _ O.the-row O′.lowered (LL.tells O.the-type O′.the-laws) last says-last Said l₅ (flatOf hs) (length-flat hs)
-      (λ ν δ. (((ν ∷ [], κs .1), (fullShare, qs .1), tt, (record { ptr = (l₅, 0); name = δ; now = flatOf hs }, a .1), (sliceVal (l₅, 0) 256 ∷ [], vals .1)), tt)) (λ ν δ. id⊢ 𝓤 _) (λ ν δ w. id⊢ 𝓤 _)
-      (λ _ _. and-then ! (held ! 18 refl) (and-then ! (held ! 14 refl) (and-then ! (held ! 12 refl) (and-then ! (held ! 39 refl) (no-more !))))) (λ r zs ws is z e.
-      land ! (from ! (stop !)) (init ! 37 refl (returned r _ is)) $
-      sets ! (addr ! (from ! (stop !))) 11 refl (tt, tt) $ sets ! (agg ! (and-then ! (held ! 11 refl) (and-then ! (lit ! tt) (no-more !)))) 9 refl (tt, (tt, (record { fits = lit< tt }, tt))) $
-      sets ! (addr ! (from ! (fld ! refl (hop ! (look-in ! 46 (sub ! 0 refl (whole !))) (stop !))))) 7 refl (tt, tt) $ sets ! (agg ! (and-then ! (held ! 7 refl) (and-then ! (load ! (from ! (fld ! refl (stop !))) (look-in ! 46 (sub ! 1 refl (whole !)))) (no-more !)))) 5 refl (tt, (tt, (record { fits = are .0 .0 .1 .0 }, tt))) $
-      calls-store ! fm at-mem run known-store (named 0) (κs .0) (qs .0) (a .0 .name) (a .0 .ptr .0) (a .0 .ptr .1) (length hs) hs refl (are .0 .0 .1) enough l₅ zs z (r .number) (LL.owed O.the-type O′.the-laws r _ is .0 .1) (λ _ _ _ _. and-then ! (load ! (from ! (fld ! refl (stop !))) (look-in ! 37 (sub ! 0 refl (whole !)))) (and-then ! (held ! 9 refl) (and-then ! (held ! 5 refl) (no-more !)))) (λ v′ at′.
-      land ! (from ! (stop !)) (store ! 31 refl (nothing-lawful 𝓤 H A W .typed tt _ at′ .0)) $
-      sets ! (of-opd ! (held ! 37 refl)) 48 refl (returned r _ is) $
-      returns ! (look ! 48 refl) $ use1 W (‵ (froom (tyArray (tyInt w16) 256) l₅ 0)) (emptied 𝓤 H A W 256 l₅ zs z) $
-      leaves ! (front (keep (keep (keep (keep (full (full (full (full (full (full (full (full (full (full (full (full (full (full (full (full (full (apart (full (full (full (full (full end)))))))))))))))))))))))))))) $
-      by ! (via 𝓤 _ (exits 𝓤 H A W (κs .0) (qs .0) (a .0 .name) (a .0 .ptr .0) (a .0 .ptr .1) hs (toks 𝓤 A 3 (κs .1) (qs .1)) (says-last ws) (O.the-row .own r (O′.lowered r ∷ [])) _ (stored (changed (r .number)) zs hs) (length-stored (changed (r .number)) zs hs) (rw (store-flat hs enough zs z (r .number) (copy-keeps _ _ _ r _ _ _ e), ← (load-flat hs enough)) e, store-rest hs enough zs (r .number)))
-      (ends (O′.lowered r) r (stored (changed (r .number)) zs hs, ws) (tt, (tt, (tt, (tt, tt))))))))))))))))))))))))))))))))))
+      let Said : O.the-row .Denot → List ℕ → last → Type 0 = λ r zs ws.
+      copied r (tableMemory zs (ws .0) (ws .1 .0))
+      ≡ copyMessage maxEntries (tableMemory (flatOf hs) (a .1 .0 .now) (a .1 .1 .0 .now)) (a .1 .1 .1 .0 .now) in
+      let stood : AllStand 𝓤 H A (fn′.signature .params) (fn′.ended .kept) κs a = stand 𝓤 H A W (kinds κs) a in
+      let end = ends-at 𝓤 H A fn′.ended (stays 𝓤 H A W fn′.ended (fn′.clauses 𝓤 H A at-mem run)) (fn′.clauses 𝓤 H A at-mem run) W ((κs, qs, bounds, a, vals), g) in
+      let after : Val → SProp 𝓤 = walkOf 𝓤 H A fn′.ended (stays 𝓤 H A W fn′.ended (fn′.clauses 𝓤 H A at-mem run)) (fn′.clauses 𝓤 H A at-mem run) .post ((κs, qs, bounds, a, vals), g) in
+      let others = othersOwn (fn′.signature .params) κs a vals in
+      let owned = MutSlice (named 0) (κs .0) T.the-row .own (a .0) (sliceVal (a .0 .ptr) (length hs) ∷ []) in
+      qed W ((‵ (flft (κs .0) (qs .0)) ⊛ raw tokens) ∷ ‵ (fsep owned others) ∷ []) ∵
+      enters ! (𝓣 .C) (𝓣 .Λ) code.function _ _ (λ bs. passable-tail (spots (code.function .locals) bs) (kinds κs) a are tt) (λ bs. let E = spots (code.function .locals) bs in
+      begun 𝓤 H A W (𝓣 .C) (𝓣 .Λ) fm at-mem run after tokens others (κs .0) (qs .0) (a .0 .name) (a .0 .ptr .0) (a .0 .ptr .1) hs
+      #core (Core 𝓤 H A at-mem run) known-core O.the-row O′.lowered (LL.tells O.the-type O′.the-laws) last says-last
+      owned E (lent-heads 𝓤 H A W (𝓣 .C) (𝓣 .Λ) fm at-mem run after tokens others (κs .0) (qs .0) (a .0 .name) (a .0 .ptr .0) (a .0 .ptr .1) hs
+      #core (Core 𝓤 H A at-mem run) known-core O.the-row O′.lowered (LL.tells O.the-type O′.the-laws) last says-last known-load E (are .0 .0 .1))
+      _ _ _ _ _ _ _ refl _ _ refl tt tt refl refl refl tt
+      (λ few. via 𝓤 _ (exits-early 𝓤 H A W (fn′.signature .params) (fn′.ended .kept) κs a vals stood (κs .0) (qs .0) tokens O.the-row (LL.makes O.the-type O′.the-plain 𝓤 H A)
+      copiedNothing _ few-is _ (copy-few _ _ _ (length-few hs few) _, refl)) (end (O′.lowered copiedNothing) copiedNothing (nows 𝓤 H A (fn′.signature .params) (fn′.ended .kept) κs a stood) (tt, (tt, (tt, (tt, tt))))))
+      _ _ _ refl _ refl tt _ _ _ _ refl refl refl tt _ _ (λ w. refl) (λ enough w.
+      finishes 𝓤 H A W (𝓣 .C) (𝓣 .Λ) fm at-mem run after tokens others (κs .0) (qs .0) (a .0 .name) (a .0 .ptr .0) (a .0 .ptr .1) hs
+      #core (Core 𝓤 H A at-mem run) known-core O.the-row O′.lowered (LL.tells O.the-type O′.the-laws) last says-last
+      known-store Said (λ r. r .number) (λ r is. LL.owed O.the-type O′.the-laws r _ is .0 .1) (are .0 .0 .1) enough _ (flatOf hs) (length-flat hs) E _ _ _ _
+      (λ ν δ. (((ν ∷ [], κs .1), (fullShare, qs .1), tt, (record { ptr = (bs .1 .1 .1 .1 .1 .0, 0); name = δ; now = flatOf hs }, a .1), (sliceVal (bs .1 .1 .1 .1 .1 .0, 0) headNumbers ∷ [], vals .1)), tt))
+      (λ ν δ. id⊢ 𝓤 _) (λ ν δ w. id⊢ 𝓤 _) (λ ν δ. refl) (λ r is. LL.lawful O.the-type O′.the-laws 𝓤 H A W .typed r _ is .0) tt
+      _ _ _ _ (λ r. refl) (λ r. refl) refl (λ r. tt) _ (λ r w. refl) 5 refl (λ r w. tt) (λ r w. tt) (λ r w. refl) (λ r w. tt) (λ r zs ws is z e.
+      via 𝓤 _ (exits 𝓤 H A W (κs .0) (qs .0) (a .0 .name) (a .0 .ptr .0) (a .0 .ptr .1) hs tokens (says-last ws) (O.the-row .own r (O′.lowered r ∷ [])) _
+      (stored (changed (r .number)) zs hs) (length-stored (changed (r .number)) zs hs)
+      (rw (store-flat hs enough zs z (r .number) (copy-keeps _ _ _ r _ _ _ e), ← (load-flat hs enough)) e, store-rest hs enough zs (r .number)))
+      (end (O′.lowered r) r (stored (changed (r .number)) zs hs, ws) (tt, (tt, (tt, (tt, tt)))))))))
 
 pub nt2-copy-receive-spec : {M : Type 1} → stated.statement M
 unfolding code.routine tablesOf
 nt2-copy-receive-spec 𝓤 H 𝓜 𝓖 𝓡 =
     entered 𝓤 H (tripleOf 𝓤 H (𝓖 .A) fn′.signature (fn′.spec 𝓤 H (𝓖 .A) (𝓜 .mem) (𝓡 .run)))
-    (tables 𝓤 H 𝓜 𝓡 code.env .C) (tables 𝓤 H 𝓜 𝓡 code.env .Λ) #nt2·nt2-copy-receive code.function (code.unfolded 𝓤 H 𝓜 𝓡)
+    (tables 𝓤 H 𝓜 𝓡 code.env .C) (tables 𝓤 H 𝓜 𝓡 code.env .Λ) #key code.function (code.unfolded 𝓤 H 𝓜 𝓡)
     (meets 𝓤 H (𝓖 .A) (givenOf 𝓤 H 𝓜 𝓖) (𝓜 .mem) (𝓡 .run) (tablesOf 𝓤 H 𝓜 (tables 𝓤 H 𝓜 𝓡 code.env))
-    (load-known 𝓤 H 𝓜 𝓖 𝓡 code.env code.calls-nt2·load)
-    (cited 𝓤 H (Core 𝓤 H (𝓖 .A) (𝓜 .mem) (𝓡 .run)) 𝓜 𝓡 code.env #client·copy-receive core-def.routine code.calls-client·copy-receive (core-thm.met 𝓤 H 𝓜 𝓖 𝓡))
-    (store-known 𝓤 H 𝓜 𝓖 𝓡 code.env code.calls-nt2·store))
+    (load-known 𝓤 H 𝓜 𝓖 𝓡 code.env code.calls-heads·load) (store-known 𝓤 H 𝓜 𝓖 𝓡 code.env code.calls-heads·store)
+    (cited 𝓤 H (Core 𝓤 H (𝓖 .A) (𝓜 .mem) (𝓡 .run)) 𝓜 𝓡 code.env #core core-def.routine code.calls-client·copy-receive (core-thm.met 𝓤 H 𝓜 𝓖 𝓡)))

@@ -1,0 +1,46 @@
+-- Messages and answers as the C structs have them: "A field that an answer does not use is 0 (false)".
+use Prim.Native.Nat.{ℕ}
+use Rattle.message.specs.Layout.{keepAliveKind, helloKind, unsupportedKind, helloCompleteKind, assignmentKind, updateKind}
+use Rattle.message.specs.Reader.{numberOf, takenOf}
+use Rattle.message.specs.declared.Decoded.{Decoded}
+use Rattle.message.specs.declared.Decoded.the-variants as D
+use Rattle.writer.specs.declared.Encoded.{Encoded}
+use Rattle.writer.specs.Writer.{numberOf as numberSent, sentOf}
+use Rattle.answer.specs.declared.Answer.{Answer}
+use Rattle.flat.specs.declared.Fields.{Fields}
+
+-- what the writer answers, with nothing taken and no recipients
+abbrev pub encodedAnswer : Encoded → Answer
+encodedAnswer e = record { number = numberSent e; recipients = 0; taken = 0; sent = sentOf e }
+
+abbrev pub fields : (number kind type revision id entryNumber taken nameLength valueLength : ℕ) → Fields
+fields number kind type revision id entryNumber taken nameLength valueLength =
+    record {
+      number = number;
+      kind = kind;
+      «type_code» = type;
+      revision = revision;
+      id = id;
+      «entry_number» = entryNumber;
+      taken = taken;
+      «name_length» = nameLength;
+      «value_length» = valueLength;
+    }
+
+-- of a message with no entry in it
+abbrev pub loneFields : Decoded → ℕ → ℕ → Fields
+loneFields d kind revision = fields (numberOf d) kind 0 revision 0 0 (takenOf d) 0 0
+
+-- "with a refusal, every field .. but its number; an update's `type_code`, since the message carries none"
+abbrev pub fieldsOf : Decoded → Fields
+fieldsOf (D.Refused fault) = fields (numberOf (D.Refused fault)) 0 0 0 0 0 0 0 0
+fieldsOf D.KeepAlive = loneFields D.KeepAlive keepAliveKind 0
+fieldsOf (D.Hello revision) = loneFields (D.Hello revision) helloKind revision
+fieldsOf (D.Unsupported revision) = loneFields (D.Unsupported revision) unsupportedKind revision
+fieldsOf D.HelloComplete = loneFields D.HelloComplete helloCompleteKind 0
+fieldsOf (D.Assignment nameLength type id number valueLength) =
+    let d = D.Assignment nameLength type id number valueLength in
+    fields (numberOf d) assignmentKind type 0 id number (takenOf d) nameLength valueLength
+fieldsOf (D.Update id number valueLength) =
+    let d = D.Update id number valueLength in
+    fields (numberOf d) updateKind 0 0 id number (takenOf d) 0 valueLength
