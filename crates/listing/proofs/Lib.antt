@@ -1,4 +1,2 @@
-pub mod PutLaws
-pub mod DigitLaws
 pub mod StepLaws
 pub mod MessagesLaws

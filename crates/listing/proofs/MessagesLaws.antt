@@ -10,11 +10,12 @@ use lib.Seq.{drop-drop, take-all}
 use borrow.Author.Tests.{leb-true, leb-false, lt-ltb, le-ltb, eq-eqb, ne-eqb, eqb-false}
 use Rattle.field.specs.Choice.{pick}
 use Rattle.field.proofs.ChoiceLaws.{pick-true, pick-false}
-use Rattle.server.specs.Step.{ServerMemory, CallResult}
-use Rattle.listing.specs.Listing.{headText, lineOf, endText, messageStep, messagesText, listingStart, streamOf, listingOn}
-use Rattle.listing.specs.Put.{Put}
-use Rattle.listing.proofs.PutLaws.{put-next}
-use Rattle.listing.proofs.StepLaws.{pick-cong, message-takes}
+use Rattle.protocol.specs.Step.{ServerMemory, CallResult}
+use Rattle.listing.specs.Listing.{headText, lineOf, endText, messageStep, messagesText, listingStart, streamSize, streamOf, listingOn}
+use Rattle.digits.specs.Put.{Put}
+use Rattle.digits.proofs.PutLaws.{put-next}
+use Rattle.field.proofs.ChoiceLaws.{pick-cong}
+use Rattle.listing.proofs.StepLaws.{message-takes}
 
 -- what stands behind a message's line
 abbrev restText : ℕ → ℕ → CallResult → List ℕ → List ℕ
@@ -120,18 +121,18 @@ pub step-fits : (stream : List ℕ) (mem : ServerMemory) (out : List ℕ) (offse
 step-fits stream mem out offset r e = rw e (omega (arith, message-takes 64 0 mem out (drop offset stream), length-drop offset stream))
 
 -- the part of the input that is lent
-pub stream-part : (n : ℕ) (input : List ℕ) → n ≡ min 4096 (length input) → take (n - 0) input ≡ streamOf input
+pub stream-part : (n : ℕ) (input : List ℕ) → n ≡ min streamSize (length input) → take (n - 0) input ≡ streamOf input
 unfolding streamOf
-stream-part n input e = go (leb 4096 (length input)) refl
+stream-part n input e = go (leb streamSize (length input)) refl
   where
-    go : (b : Bool) → leb 4096 (length input) ≡ b → take (n - 0) input ≡ take 4096 input
+    go : (b : Bool) → leb streamSize (length input) ≡ b → take (n - 0) input ≡ take streamSize input
     go true t =
-        let l : 4096 ≤ length input = leb-true _ _ t in
-        let k : n - 0 ≡ 4096 = omega arith in
+        let l : streamSize ≤ length input = leb-true _ _ t in
+        let k : n - 0 ≡ streamSize = omega arith in
         rw k refl
     go false t =
-        let l : length input < 4096 = leb-false _ _ t in
-        take-all (n - 0) input (omega arith) ∙ sym (take-all 4096 input (omega arith))
+        let l : length input < streamSize = leb-false _ _ t in
+        take-all (n - 0) input (omega arith) ∙ sym (take-all streamSize input (omega arith))
 
 -- the head line, and the lines behind it
 pub listing-put : (mem start : ServerMemory) (out input stream buffer text now : List ℕ) (end last : ℕ) → start ≡ listingStart mem → stream ≡ streamOf input

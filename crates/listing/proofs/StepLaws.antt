@@ -1,12 +1,11 @@
 -- "Taken" is no more than there is.
-use mathlib.Core.Path.{_≡_, refl}
-use mathlib.Core.Bool.{Bool, true, false}
+use mathlib.Core.Bool.{Bool}
 use mathlib.Core.List.{List}
 use Prim.Native.Nat.{ℕ, _≤_}
 use native.Mathlib.Omega.{arith}
 use lib.ListN.{length, getD}
 use borrow.Author.Tests.{leb-true}
-use Rattle.field.specs.Choice.{pick}
+use Rattle.field.specs.declared.Fault.{Fault}
 use Rattle.field.proofs.ChoiceLaws.{by-test}
 use Rattle.message.specs.Layout.{Entry}
 use Rattle.message.specs.Reader.{idAllowed}
@@ -16,18 +15,13 @@ use Rattle.message.specs.declared.AssignmentRead.the-variants as A
 use Rattle.message.specs.declared.UpdateRead.{UpdateRead}
 use Rattle.message.specs.declared.UpdateRead.the-variants as U
 use Rattle.message.proofs.TakenLaws.{AssignmentIs, assignment-is, UpdateIs, update-is}
-use Rattle.answers.specs.Recipients.{Recipients}
-use Rattle.server.specs.Judge.{clientMessage, Verdict, refuse, ignore, acceptHello, unsupportedRevision, storeNew, storeUpdate, judge, judgeMessage, judgeHello, judgeAssignment, judgeUpdate}
-use Rattle.server.specs.Step.{ServerMemory, CallResult, callStep, execute, refusal}
-
-pub pick-cong : {X : Type 0} (b : Bool) {x x′ y y′ : X} → x ≡ x′ → (b ≡ false → y ≡ y′) → pick b x y ≡ pick b x′ y′
-unfolding pick
-pick-cong true e f = e
-pick-cong false e f = f refl
+use Rattle.answer.specs.Recipients.{Recipients}
+use Rattle.protocol.specs.Judge.{clientMessage, Verdict, refuse, ignore, acceptHello, unsupportedRevision, storeNew, storeUpdate, judge, judgeKind, judgeMessage, judgeHello, judgeAssignment, judgeUpdate}
+use Rattle.protocol.specs.Step.{ServerMemory, CallResult, callStep, execute, refusal}
 
 -- a verdict on a message of n bytes takes no more
 data Within (n : ℕ) : Verdict → Type 0 where
-  refused : {number : ℕ} → Within n (refuse number)
+  refused : {fault : Fault} → Within n (refuse fault)
   ignored : {taken : ℕ} → taken ≤ n → Within n (ignore taken)
   accepted : {c : ℕ} → 3 ≤ n → Within n (acceptHello c)
   unsupported : {c : ℕ} → 3 ≤ n → Within n (unsupportedRevision c)
@@ -48,17 +42,17 @@ hello-within c mark m =
 
 assignment-within : (limit : ℕ) (es : List Entry) (m : List ℕ) (r : AssignmentRead) → AssignmentIs (idAllowed (Only 0xFFFF)) m r → Within (length m) (judgeAssignment limit es m r)
 unfolding judgeAssignment
-assignment-within limit es m (A.Refused number place) f = refused
+assignment-within limit es m (A.Refused fault) f = refused
 assignment-within limit es m (A.Assignment n t id q v) (AssignmentIs.taken a h w) =
     by-test (Within (length m)) _ _ _ (λ _. ignored h) (λ _. by-test (Within (length m)) _ _ _ (λ _. new h) (λ _. refused))
 
 update-within : (c : ℕ) (es : List Entry) (m : List ℕ) (held : ℕ → Bool) (typeOf : ℕ → ℕ) (r : UpdateRead) → UpdateIs held typeOf m r → Within (length m) (judgeUpdate c es m r)
 unfolding judgeUpdate
-update-within c es m held typeOf (U.Refused number place) f = refused
+update-within c es m held typeOf (U.Refused fault) f = refused
 update-within c es m held typeOf (U.Update id q v) (UpdateIs.taken a h w) = by-test (Within (length m)) _ _ _ (λ _. update h) (λ _. ignored h)
 
 message-within : (limit : ℕ) (es : List Entry) (c mark : ℕ) (m : List ℕ) → Within (length m) (judgeMessage limit es c mark m)
-unfolding judgeMessage
+unfolding judgeMessage judgeKind
 message-within limit es c mark m =
     by-test P _ _ _ (λ l. by-test P _ _ _ (λ _. ignored (leb-true _ _ l)) (λ _. by-test P _ _ _ (λ _. hello-within c mark m)
     (λ _. by-test P _ _ _ (λ _. by-test P _ _ _ (λ _. assignment-within limit es m _ (assignment-is _ m)) (λ _. refused))
@@ -69,7 +63,7 @@ message-within limit es c mark m =
 
 executed : (mem : ServerMemory) (out : List ℕ) (n : ℕ) (v : Verdict) → Within n v → Takes n (execute mem out v)
 unfolding execute
-executed mem out n (refuse number) refused = quiet n number mem out
+executed mem out n (refuse fault) refused = quiet n (fault .number) mem out
 executed mem out n (ignore taken) (ignored h) = record { takes = h }
 executed mem out n (acceptHello c) (accepted h) = by-test (Takes n) _ _ _ (λ _. record { takes = h }) (λ _. quiet n 12 mem out)
 executed mem out n (unsupportedRevision c) (unsupported h) = by-test (Takes n) _ _ _ (λ _. record { takes = h }) (λ _. quiet n 12 mem out)

@@ -6,10 +6,11 @@ use lib.Dec.{ltb, eqb}
 use Rattle.field.specs.Choice.{pick}
 use Rattle.table.specs.Table.{maxEntries, headSize, entrySize}
 use Rattle.soundness.specs.Sound.{connections}
-use Rattle.server.specs.Judge.{openConnection, clientMessage}
-use Rattle.server.specs.Step.{ServerMemory, CallResult, callStep, freshStart}
-use Rattle.server.specs.Answers.{serverMemory}
-use Rattle.listing.specs.Digits.{decimalText, hexText}
+use Rattle.hello.specs.Hello.{longestHello}
+use Rattle.protocol.specs.Judge.{openConnection, clientMessage}
+use Rattle.protocol.specs.Step.{ServerMemory, CallResult, callStep, freshStart}
+use Rattle.protocol.specs.Lent.{serverMemory}
+use Rattle.digits.specs.Digits.{decimalText, hexText}
 
 abbrev space : List ℕ
 space = 32 ∷ []
@@ -58,8 +59,11 @@ unfoldable pub listingStart : ServerMemory → ServerMemory
 listingStart mem = callStep maxEntries (freshStart maxEntries mem .memory) (record { call = openConnection 0; output = [] }) .memory
 
 -- "reads at most 4,096 bytes of standard input as connection 0's stream": a message takes at least one of them
+abbrev pub streamSize : ℕ
+streamSize = 4096
+
 unfoldable pub streamOf : List ℕ → List ℕ
-streamOf input = take 4096 input
+streamOf input = take streamSize input
 
 -- the listing on lent memory, with a lent output
 unfoldable pub listingOn : ServerMemory → (output input : List ℕ) → List ℕ
@@ -71,7 +75,7 @@ listingMemory = serverMemory (replicate (headSize * maxEntries) 0) (replicate (e
 
 -- "Each call is lent 20,993 bytes of output."
 unfoldable pub listingOutput : List ℕ
-listingOutput = replicate 20993 0
+listingOutput = replicate (longestHello maxEntries) 0
 
 unfoldable pub listingText : List ℕ → List ℕ
 listingText input = listingOn listingMemory listingOutput input

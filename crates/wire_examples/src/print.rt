@@ -1,70 +1,87 @@
-// Words, numbers and answers on standard output.
+// Answers on standard output.
 use field::Parsed;
+use message::ASSIGNMENT;
 use message::AssignmentRead;
 use message::Decoded;
+use message::HELLO;
+use message::HELLO_COMPLETE;
+use message::KEEP_ALIVE;
+use message::UNSUPPORTED;
+use message::UPDATE;
+use script::figure;
+use script::word;
 use std::num::wrapping_add_usize;
 
-pub fn word(s: &[u8]) {
-    io::write_all(1, s);
+pub fn told(b: bool) {
+    if b {
+        word(b": yes");
+    } else {
+        word(b": no");
+    }
 }
 
-pub fn end_line() {
-    io::write_all(1, b"\n");
+pub fn number(n: u16) {
+    figure(n as usize);
 }
 
-// A word and a number behind it.
-pub fn field(name: &[u8], n: usize) {
-    word(name);
-    io::print_decimal(1, n as u64);
+// A refusal's number.
+pub fn refusal(answer: u8) {
+    word(b": refused");
+    figure(answer as usize);
 }
 
+// A refusal's number, and its place.
 fn refused(answer: u8, place: usize) {
-    field(b" refused ", answer as usize);
-    field(b" at ", place);
+    refusal(answer);
+    figure(place);
 }
 
-fn taken(n: usize) {
-    field(b" taken ", n);
+// A message's kind, and its own length.
+fn taken(kind: u8, n: usize) {
+    word(b": kind");
+    figure(kind as usize);
+    figure(n);
 }
 
-// Taken is the message's own length.
-fn assignment(name_length: usize, type_code: u8, id: u16, number: u16, value_length: usize) {
-    word(b" assignment");
-    taken(wrapping_add_usize(8, wrapping_add_usize(name_length, value_length)));
-    field(b" name ", name_length);
-    field(b" type ", type_code as usize);
-    field(b" id ", id as usize);
-    field(b" number ", number as usize);
-    field(b" value ", value_length);
+fn revision(kind: u8, n: u16) {
+    taken(kind, 3);
+    number(n);
 }
 
-fn update(id: u16, number: u16, value_length: usize) {
-    word(b" update");
-    taken(wrapping_add_usize(5, value_length));
-    field(b" id ", id as usize);
-    field(b" number ", number as usize);
-    field(b" value ", value_length);
+fn assignment(name_length: usize, type_code: u8, id: u16, n: u16, value_length: usize) {
+    taken(
+        ASSIGNMENT,
+        wrapping_add_usize(8, wrapping_add_usize(name_length, value_length)),
+    );
+    figure(name_length);
+    figure(type_code as usize);
+    number(id);
+    number(n);
+    figure(value_length);
 }
 
-// A kind with a revision.
-fn revision(name: &[u8], n: u16) {
-    word(name);
-    taken(3);
-    field(b" revision ", n as usize);
+fn update(id: u16, n: u16, value_length: usize) {
+    taken(UPDATE, wrapping_add_usize(5, value_length));
+    number(id);
+    number(n);
+    figure(value_length);
 }
 
-// The answer to a text or a value.
+// The answer to a value.
 pub fn parsed(p: Parsed) {
     match p {
-        Parsed::Refused(answer, place) => refused(answer, place),
-        Parsed::Taken(n) => taken(n),
+        Parsed::Refused(fault) => refused(fault.number, fault.place),
+        Parsed::Taken(n) => {
+            word(b": taken");
+            figure(n);
+        }
     }
 }
 
 // The answer to an assignment.
 pub fn assignment_read(a: AssignmentRead) {
     match a {
-        AssignmentRead::Refused(answer, place) => refused(answer, place),
+        AssignmentRead::Refused(fault) => refused(fault.number, fault.place),
         AssignmentRead::Assignment {
             name_length,
             type_code,
@@ -78,11 +95,11 @@ pub fn assignment_read(a: AssignmentRead) {
 // The answer to a message of any kind.
 pub fn decoded(d: Decoded) {
     match d {
-        Decoded::Refused(answer, place) => refused(answer, place),
-        Decoded::KeepAlive => word(b" keep alive taken 1"),
-        Decoded::Hello(n) => revision(b" hello", n),
-        Decoded::Unsupported(n) => revision(b" unsupported", n),
-        Decoded::HelloComplete => word(b" hello complete taken 1"),
+        Decoded::Refused(fault) => refused(fault.number, fault.place),
+        Decoded::KeepAlive => taken(KEEP_ALIVE, 1),
+        Decoded::Hello(n) => revision(HELLO, n),
+        Decoded::Unsupported(n) => revision(UNSUPPORTED, n),
+        Decoded::HelloComplete => taken(HELLO_COMPLETE, 1),
         Decoded::Assignment {
             name_length,
             type_code,

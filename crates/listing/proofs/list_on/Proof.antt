@@ -1,8 +1,9 @@
+-- `list_on` puts the listing: the head line, and then the messages on the started table.
 use mathlib.Core.Path.{ap, _∙_}
 use mathlib.Core.List.{[]}
-use Rattle.server.specs.Judge.{openConnection}
-use Rattle.server.specs.Step.{ServerMemory, CallResult, callStep}
-use Rattle.server.specs.Answers.{serverMemory}
+use Rattle.protocol.specs.Judge.{openConnection}
+use Rattle.protocol.specs.Step.{ServerMemory, CallResult, callStep}
+use Rattle.protocol.specs.Lent.{serverMemory}
 use Rattle.listing.specs.Listing.{headText, listingStart}
 use Rattle.listing.proofs.MessagesLaws.{listing-put, stream-part}
 use borrow.Author.Needs.{needs}

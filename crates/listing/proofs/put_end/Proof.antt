@@ -1,5 +1,6 @@
+-- `put_end` puts the end line: its parts one after the other.
 use Rattle.listing.specs.Listing.{endText}
-use Rattle.listing.proofs.PutLaws.{put-next}
+use Rattle.digits.proofs.PutLaws.{put-next}
 use borrow.Author.Needs.{needs}
 use Rattle.listing.proofs.put_end.Statement.{statement}
 use Rattle.listing.proofs.put_end.Tie as tie

@@ -1,6 +1,7 @@
-use Rattle.listing.specs.Put.{Put}
+-- `put_line` puts a line: its parts one after the other.
+use Rattle.digits.specs.Put.{Put}
 use Rattle.listing.specs.Listing.{lineText}
-use Rattle.listing.proofs.PutLaws.{put-next, put-length}
+use Rattle.digits.proofs.PutLaws.{put-next, put-length}
 use borrow.Author.Needs.{needs}
 use Rattle.listing.proofs.put_line.Statement.{statement}
 use Rattle.listing.proofs.put_line.Tie as tie

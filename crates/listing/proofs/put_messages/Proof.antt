@@ -1,13 +1,14 @@
-use Rattle.listing.proofs.PutLaws.{put-length}
+-- `put_messages` puts a line for each message: a loop whose invariant is that the lines so far lead to those that are left.
+use Rattle.digits.proofs.PutLaws.{put-length}
 use mathlib.Core.Path.{_≡_, refl, _∙_}
 use Prim.Native.Nat.{_-_, _≤_, _<_}
 use native.Mathlib.Omega.{arith}
 use lib.ListN.{length, drop}
 use borrow.Author.Needs.{needs}
 use Rattle.field.proofs.OctetsLaws.{rest-all}
-use Rattle.server.specs.Step.{CallResult}
+use Rattle.protocol.specs.Step.{CallResult}
 use Rattle.listing.specs.Listing.{messageStep}
-use Rattle.server.specs.Answers.{serverMemory, resultOf}
+use Rattle.protocol.specs.Lent.{serverMemory, answered}
 use Rattle.listing.proofs.MessagesLaws.{LeadsTo, leads-start, leads-on, leads-end, leads-refused, step-fits}
 use Rattle.listing.proofs.put_messages.Statement.{statement}
 use Rattle.listing.proofs.put_messages.Tie as tie
@@ -34,7 +35,7 @@ begin c = c .before .before .before .before .before .before .before
 abbrev result : tie.After-slice-known10 Inv-loop μ-loop → CallResult
 result c =
     let d = call c .receive in
-    resultOf (d .result) (d .last .0) (d .last .1 .0) (d .last .1 .1 .0) (d .last .1 .1 .1 .0) (d .last .1 .1 .1 .1 .1 .1 .0)
+    answered (d .result) (serverMemory (d .last .0) (d .last .1 .0) (d .last .1 .1 .0) (d .last .1 .1 .1 .0)) (d .last .1 .1 .1 .1 .1 .1 .0)
 
 step : (c : tie.After-slice-known10 Inv-loop μ-loop) → result c ≡ messageStep (serverMemory (head c .loop .heads) (head c .loop .bytes) (head c .loop .count) (head c .loop .marks)) (head c .loop .out) (drop (head c .loop .offset) (begin (head c) .args .stream .now))
 step c = rw (rest-all (head c .loop .offset) (begin (head c) .args .stream .now)) at (call c .receive .ensures)

@@ -6,10 +6,10 @@ use Rattle.wire_examples.proofs.cases.cuts.Statement.{statement}
 use Rattle.wire_examples.proofs.cases.cuts.Tie as tie
 
 abbrev Inv-loop : tie.InvT-loop
-Inv-loop label update-type m n₀ n = Unit {0}
+Inv-loop update-type m n₀ n = Unit {0}
 
 abbrev μ-loop : tie.MeasureT-loop
-μ-loop label update-type m n₀ n = length m - n
+μ-loop update-type m n₀ n = length m - n
 
 loop-holds : tie.Need-loop-holds Inv-loop μ-loop
 loop-holds c = tt
