@@ -1,5 +1,5 @@
 -- "Numbers a call answers with"
-use Prim.Native.Nat.{ℕ}
+use Prim.Native.Nat.{ℕ, _≤_}
 
 -- "done"
 abbrev pub done : ℕ
@@ -64,3 +64,8 @@ nameTaken = 13
 -- "lent table unsound or too small"
 abbrev pub unsound : ℕ
 unsound = 14
+
+-- "A refusal (1 to 14)"
+pub record RefusalNumber (number : ℕ) : Type 0 where
+  pub above : incomplete ≤ number
+  pub below : number ≤ unsound

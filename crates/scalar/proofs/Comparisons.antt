@@ -1,12 +1,15 @@
--- Comparisons of Doubles by their patterns: the two zeros are equal, and a NaN is equal to nothing.
-use mathlib.Core.Bool.{true, false}
-use mathlib.Core.Path.{_≡_, refl}
-use lib.Ieee.{binary64, ofBits, eq}
+-- The comparisons of Doubles are computed.
+use mathlib.Core.Path.{refl}
+use lib.Ieee.{ofBits, eq}
+use Rattle.field.specs.Choice.{pick}
+use Rattle.field.specs.Octets.{decode16}
+use Rattle.scalar.specs.Scalar.{decode64, equalDouble, equalDoubles, equalValues}
+use Rattle.scalar.specs.Comparisons.{ZerosEqual, NanUnequal}
 
-pub zeros-equal : eq (ofBits binary64 0) (ofBits binary64 0x8000_0000_0000_0000) ≡ true
-unfolding ofBits eq
-zeros-equal = refl
+pub zeros-equal : ZerosEqual
+unfolding ofBits eq pick decode16 decode64 equalDouble equalDoubles equalValues
+zeros-equal = (refl, refl)
 
-pub nan-unequal : eq (ofBits binary64 0x7FF8_0000_0000_0000) (ofBits binary64 0x7FF8_0000_0000_0000) ≡ false
-unfolding ofBits eq
-nan-unequal = refl
+pub nan-unequal : NanUnequal
+unfolding ofBits eq pick decode16 decode64 equalDouble equalDoubles equalValues
+nan-unequal = (refl, refl)

@@ -8,7 +8,6 @@ use value::TRUE;
 ghost use mathlib.Core.Path.{_≡_};
 ghost use Prim.Native.Nat.{_+_, _*_, _≤_};
 ghost use lib.ListN.{length, drop, getD};
-ghost use lib.Ieee as Ieee;
 ghost use lib.Ieee.{binary64, ofBits};
 ghost use Rattle.value.specs.Value.{doubleSize, countSize, IsValue};
 ghost use Rattle.scalar.specs.Scalar.{decode64, scalarOf, equalDouble, equalDoubles, equalValues};

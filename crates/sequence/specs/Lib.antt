@@ -1,1 +1,2 @@
 pub mod SequenceNumber
+pub mod Comparisons

@@ -1,7 +1,7 @@
 -- Laws of UTF-8 that a loop over the bytes cites, and the marked texts.
 use mathlib.Core.Path.{_≡_, refl}
-use mathlib.Core.Bool.{true, false}
-use mathlib.Core.List.{List, [], _∷_, map}
+use mathlib.Core.Bool.{true}
+use mathlib.Core.List.{List, [], _∷_}
 use Prim.Native.Nat.{ℕ, suc, _+_, _≤_, _<_}
 use native.Mathlib.Omega.{arith}
 use borrow.Author.Tests.{le-leb}
@@ -10,6 +10,7 @@ use lib.ListN.{length, drop, getD, drop-of-length-le}
 use lib.Seq.{drop-cons}
 use Rattle.field.specs.Choice.{pick}
 use Rattle.text.specs.Utf8.{afterFirst, afterByte, isBoundary, utf8From, isUtf8}
+use Rattle.text.specs.MarkedTexts.{MarkedTextsHold}
 use Rattle.text.specs.declared.Expected.{Expected}
 
 -- one byte further
@@ -27,8 +28,6 @@ unfolding isUtf8 utf8From afterByte afterFirst pick
 ascii-utf8 [] h = refl
 ascii-utf8 (b ∷ s) h = rw (le-leb b 0x7F (h 0 (omega arith))) (ascii-utf8 s (λ i l. h (suc i) (omega arith)))
 
--- "F4 8F BF BF is accepted. C0 80, ED A0 80 and F4 90 80 80 are refused. A zero byte is text."
-pub marked-texts : map isUtf8 ((0xF4 ∷ 0x8F ∷ 0xBF ∷ 0xBF ∷ []) ∷ (0xC0 ∷ 0x80 ∷ []) ∷ (0xED ∷ 0xA0 ∷ 0x80 ∷ []) ∷ (0xF4 ∷ 0x90 ∷ 0x80 ∷ 0x80 ∷ []) ∷ (0 ∷ []) ∷ [] ∷ [])
-    ≡ true ∷ false ∷ false ∷ false ∷ true ∷ true ∷ []
+pub marked-texts : MarkedTextsHold
 unfolding isUtf8 utf8From afterByte afterFirst pick
 marked-texts = refl

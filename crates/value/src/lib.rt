@@ -9,7 +9,8 @@ use field::fault_at;
 ghost use mathlib.Core.Path.{_≡_};
 ghost use Prim.Native.Nat.{_≤_};
 ghost use lib.ListN.{length, drop};
-ghost use Rattle.value.specs.Value.{knownType, parseBoolean, parseDouble, parseElement, countSize, countFits, elements, parseArray, parseValue, parseLone};
+ghost use Rattle.value.specs.Value.{knownType, parseBoolean, parseDouble, parseElement};
+ghost use Rattle.value.specs.Value.{countSize, countFits, elements, parseArray, parseValue, parseLone};
 
 // Types: a Boolean, a Double, a String, and arrays of these.
 pub const BOOLEAN: u8 = 0x00;

@@ -36,11 +36,14 @@ shared-slice-read-if3 : tie.Need-shared-slice-read-if3
 shared-slice-read-if3 c = omega (arith, arrays (c .before) .0)
 
 shared-slice-read-if3-2 : tie.Need-shared-slice-read-if3-2
-shared-slice-read-if3-2 c = omega (arith, arrays (c .before .before) .1)
+shared-slice-read-if3-2 c = let h = arrays (c .before .before) in omega (arith, h .0, h .1)
 
 returns-2 : tie.Need-returns-2
 unfolding equalValues pick
-returns-2 c = rw (ne-eqb _ _ (c .before .before .before .before .if1 .left), eq-eqb _ _ (c .before .before .before .if2 .taken), ne-eqb _ _ (c .if3 .taken))
+returns-2 c =
+    let t = c .before .before .before in
+    let a = t .before .before .before .before .args in
+    rw (ne-eqb _ _ (t .before .if1 .left), eq-eqb _ _ (t .if2 .taken), ne-eqb (getD (a .v .now) 0 0) (getD (a .w .now) 0 0) (omega arith))
 
 shared-slice-read-same-doubles : tie.Need-shared-slice-read-same-doubles
 shared-slice-read-same-doubles c = omega (arith, arrays (c .before .before .before .before) .0)
@@ -48,11 +51,15 @@ shared-slice-read-same-doubles c = omega (arith, arrays (c .before .before .befo
 same-doubles-requires : tie.Need-same-doubles-requires
 same-doubles-requires c κs =
     let h = arrays (c .before .before .before .before) in
-    (h .0, rw (c .before .if3 .left) (h .1))
+    (h .0, omega (arith, h .1))
 
 returns-3 : tie.Need-returns-3
 unfolding equalValues pick
-returns-3 c = rw (ne-eqb _ _ (c .before .before .before .before .before .before .if1 .left), eq-eqb _ _ (c .before .before .before .before .before .if2 .taken), eq-eqb _ _ (c .before .before .if3 .left)) (c .same-doubles .ensures)
+returns-3 c =
+    let t = c .before .before .before .before .before in
+    let a = t .before .before .before .before .args in
+    rw (ne-eqb _ _ (t .before .if1 .left), eq-eqb _ _ (t .if2 .taken), eq-eqb (getD (a .v .now) 0 0) (getD (a .w .now) 0 0) (omega arith))
+    (c .same-doubles .ensures)
 
 same-bytes-requires : tie.Need-same-bytes-requires
 same-bytes-requires c κs = search needs
