@@ -14,7 +14,8 @@ ghost use mathlib.Core.List.{_∷_, []};
 ghost use Prim.Native.Nat.{_+_, _≤_};
 ghost use lib.ListN.{length};
 ghost use Rattle.field.specs.Octets.{overwriteAt};
-ghost use Rattle.message.specs.Layout.{assignmentBytes, updateBytes, revisionBytes, maxNameLength, kindSize, revisionLength, assignmentFixed, updateValueStart};
+ghost use Rattle.message.specs.Layout.{assignmentBytes, updateBytes, revisionBytes};
+ghost use Rattle.message.specs.Layout.{maxNameLength, kindSize, revisionLength, assignmentFixed, updateValueStart};
 ghost use Rattle.message.specs.Lent.{lentEntry};
 
 // A message that is its kind alone.

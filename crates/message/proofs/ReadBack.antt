@@ -16,8 +16,10 @@ use Rattle.field.proofs.OctetsLaws.{decode-encode}
 use Rattle.text.proofs.TextLaws.{text-back}
 use Rattle.value.specs.Value.{IsValue}
 use Rattle.value.proofs.ValueLaws.{value-back, value-known, value-small}
-use Rattle.message.specs.Layout.{Entry, Message, keepAlive, hello, unsupported, helloComplete, assignment, update, assignmentBytes, updateBytes, revisionBytes, layout, WellFormed, WellFormedMessage, keepAliveKind, helloKind, unsupportedKind, helloCompleteKind, assignmentKind, updateKind}
-use Rattle.message.specs.Reader.{idAllowed, parseName, parseValueAt, parseBehindId, parseAfterName, parseAssignment, parseUpdate, parseRevision, parseByKind, parseMessage, ofAssignment, ofUpdate, takenOf, contents}
+use Rattle.reader.specs.Reader.{parseTextAt, parseValueAt}
+use Rattle.message.specs.Layout.{Entry, keepAlive, hello, unsupported, helloComplete, assignment, update, assignmentBytes, updateBytes, revisionBytes, layout, WellFormed, keepAliveKind, helloKind, unsupportedKind, helloCompleteKind, assignmentKind, updateKind}
+use Rattle.message.specs.Reader.{idAllowed, parseName, parseBehindId, parseAfterName, parseAssignment, parseBehindUpdateId, parseUpdate, parseRevision, parseByKind, parseMessage, ofAssignment, ofUpdate, contents}
+use Rattle.message.specs.Laws.{LongestAssignment, LongestUpdate, ReadBack, SameBytes}
 use Rattle.message.specs.declared.AllowedId.the-variants.{Any}
 use Rattle.message.specs.declared.AssignmentRead.the-variants as A
 use Rattle.message.specs.declared.UpdateRead.the-variants as U
@@ -37,11 +39,10 @@ pub length-revision : (kind revision : ℕ) → length (revisionBytes kind revis
 unfolding revisionBytes encode16
 length-revision kind revision = refl
 
--- "The longest assignment is 328 bytes, the longest update 261"
-pub longest-assignment : (id : ℕ) (e : Entry) → WellFormed e → length (assignmentBytes id e) ≤ 328
+pub longest-assignment : LongestAssignment
 longest-assignment id e w = omega (arith, length-assignment id e, w .name-fits, value-small (e .type) (e .value) (length (e .value)) (w .value-whole))
 
-pub longest-update : (t id number : ℕ) (value : List ℕ) → IsValue t value → length (updateBytes id number value) ≤ 261
+pub longest-update : LongestUpdate
 longest-update t id number value w = omega (arith, length-update id number value, value-small t value (length value) w)
 
 -- ---- an assignment
@@ -102,7 +103,7 @@ after-name-back allowed at m t id number value rest a w h e =
 
 -- the name behind the kind
 parse-name-back : (id : ℕ) (e : Entry) (rest : List ℕ) → WellFormed e → parseName (assignmentBytes id e ++ rest) ≡ Taken (2 + length (e .name))
-unfolding parseName
+unfolding parseTextAt
 parse-name-back id e rest w =
     rw (behind-kind id e rest, text-back 66 (e .name) (afterName (e .type) id (e .number) (e .value ++ rest)) (omega (arith, w .name-fits)) (w .name-text))
 
@@ -124,7 +125,7 @@ update-value-back id number value rest = take-append-seam value rest
 
 pub update-back : (held : ℕ → Bool) (typeOf : ℕ → ℕ) (id number : ℕ) (value rest : List ℕ) → held id ≡ true → IsValue (typeOf id) value
     → parseUpdate held typeOf (updateBytes id number value ++ rest) ≡ U.Update id number (length value)
-unfolding parseUpdate parseValueAt updateBytes encode16 pick
+unfolding parseBehindUpdateId parseUpdate parseValueAt updateBytes encode16 pick
 update-back held typeOf id number value rest h w =
     rw (
       decode-encode id (encode16 number ++ (value ++ rest)),
@@ -183,11 +184,6 @@ message-update : (t id number : ℕ) (value rest : List ℕ) → IsValue t value
     → parseMessage t (updateBytes id number value ++ rest) ≡ D.Update id number (length value)
 message-update t id number value rest w = by-kind-update t id number value rest ∙ ap ofUpdate (update-back (idAllowed Any) (λ _. t) id number value rest refl w)
 
--- what was written is what is read, and all of its bytes are taken
-pub record ReadsAs (t : ℕ) (x : Message) (m : List ℕ) : Type 0 where
-  pub fields-back : contents m (parseMessage t m) ≡ some x
-  pub length-back : takenOf (parseMessage t m) ≡ length (layout x)
-
 assignment-fields : (id : ℕ) (e : Entry) (rest : List ℕ)
     → contents (assignmentBytes id e ++ rest) (D.Assignment (length (e .name)) (e .type) id (e .number) (length (e .value))) ≡ some (assignment id e)
 assignment-fields id e rest = rw (name-back id e rest, value-back-at id e rest)
@@ -196,7 +192,7 @@ update-fields : (id number : ℕ) (value rest : List ℕ)
     → contents (updateBytes id number value ++ rest) (D.Update id number (length value)) ≡ some (update id number value)
 update-fields id number value rest = rw (update-value-back id number value rest)
 
-pub read-back : (t : ℕ) (x : Message) (rest : List ℕ) → WellFormedMessage t x → ReadsAs t x (layout x ++ rest)
+pub read-back : ReadBack
 unfolding layout
 read-back t keepAlive rest w = record { fields-back = rw (message-keep-alive t rest); length-back = rw (message-keep-alive t rest) }
 read-back t (hello revision) rest w =
@@ -215,8 +211,7 @@ read-back t (update id number value) rest w =
       length-back = rw (message-update t id number value rest w) (sym (length-update id number value));
     }
 
--- equal bytes mean equal messages
-pub same-bytes : (t : ℕ) (x y : Message) → layout x ≡ layout y → WellFormedMessage t x → WellFormedMessage t y → x ≡ y
+pub same-bytes : SameBytes
 same-bytes t x y e v w =
     let p : contents (layout x ++ []) (parseMessage t (layout x ++ [])) ≡ some x = read-back t x [] v .fields-back in
     let q : contents (layout y ++ []) (parseMessage t (layout y ++ [])) ≡ some y = read-back t y [] w .fields-back in

@@ -2,7 +2,7 @@
 use mathlib.Core.Path.{_≡_}
 use mathlib.Core.Bool.{Bool, true, false}
 use mathlib.Core.List.{List}
-use Prim.Native.Nat.{ℕ, _+_, _-_, _≤_, _<_}
+use Prim.Native.Nat.{ℕ, _+_, _≤_, _<_}
 use native.Mathlib.Omega.{arith}
 use lib.ListN.{length, drop, getD, length-drop}
 use borrow.Author.Tests.{le-leb, lt-leb}
@@ -15,15 +15,15 @@ use Rattle.field.specs.declared.Parsed.the-variants.{Refused, Taken}
 use Rattle.text.specs.Text.{parseText}
 use Rattle.text.proofs.TextLaws.{TextIs, text-is}
 use Rattle.value.specs.Value.{knownType}
-use Rattle.message.specs.Reader.{idAllowed, parseName, parseBehindId, parseAfterName, parseUpdate}
-use Rattle.message.specs.declared.AllowedId.the-variants.{Any}
+use Rattle.reader.specs.Reader.{parseTextAt}
+use Rattle.message.specs.Reader.{parseName, parseBehindId, parseAfterName, parseBehindUpdateId, parseUpdate}
 use Rattle.message.specs.declared.AssignmentRead.the-variants as A
 use Rattle.message.specs.declared.UpdateRead.the-variants as U
 
 -- a name that was read has its prefix, and its bytes are there
-pub name-taken : (m : List ℕ) (n : ℕ) → 1 ≤ length m → parseName m ≡ Taken n → (2 ≤ n) × (1 + n ≤ length m)
-unfolding parseName
-name-taken m n h e = go (parseText 66 0 (drop 1 m)) (text-is 66 0 (drop 1 m)) e
+pub name-taken : (m : List ℕ) (n : ℕ) → parseName m ≡ Taken n → (2 ≤ n) × (1 + n ≤ length m)
+unfolding parseTextAt
+name-taken m n e = go (parseText 66 0 (drop 1 m)) (text-is 66 0 (drop 1 m)) e
   where
     go : (r : Parsed) → TextIs 66 0 (drop 1 m) r → movedBy 1 r ≡ Taken n → (2 ≤ n) × (1 + n ≤ length m)
     go (Refused fault) t q = let z : _≡_ {A = ℕ} 0 1 = cc in absurd (omega arith)
@@ -46,8 +46,8 @@ module _ (held : ℕ → Bool) (typeOf : ℕ → ℕ) (m : List ℕ) where
   unfolding parseUpdate pick
   update-unknown id h e k = rw (le-leb 3 (length m) h, ← e, k)
 
-  -- the ID is held: the rest is read as an update of any ID with its type
+  -- the ID is held: what stands behind it is read with its type
   pub update-held : (id t : ℕ) → 3 ≤ length m → id ≡ decode16 (drop 1 m) → held id ≡ true → t ≡ typeOf id
-      → parseUpdate held typeOf m ≡ parseUpdate (idAllowed Any) (λ _. t) m
+      → parseUpdate held typeOf m ≡ parseBehindUpdateId id t m
   unfolding parseUpdate pick
   update-held id t h e k q = rw (le-leb 3 (length m) h, ← e, k, ← q)

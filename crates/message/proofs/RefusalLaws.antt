@@ -5,7 +5,7 @@ use Prim.Native.Nat.{ℕ, zero, suc, _+_, _-_, _≤_}
 use native.Mathlib.Omega.{arith}
 use lib.Dec.{eqb}
 use lib.ListN.{length, getD, drop}
-use Rattle.field.specs.Answer.{tooLong}
+use Rattle.field.specs.Answer.{tooLong, RefusalNumber}
 use Rattle.field.specs.Choice.{demand}
 use Rattle.field.specs.Octets.{decode16}
 use Rattle.field.specs.Field.{faultAt, andThen, movedBy}
@@ -15,16 +15,12 @@ use Rattle.field.specs.declared.Parsed.the-variants.{Refused, Taken}
 use Rattle.field.proofs.ChoiceLaws.{by-test}
 use Rattle.text.specs.Text.{parseText}
 use Rattle.value.specs.Value.{maxValueSize, parseBoolean, parseDouble, parseElement, elements, parseArray, parseValue, parseLone}
-use Rattle.message.specs.Reader.{parseName, parseValueAt, parseBehindId, parseAfterName, parseAssignment, parseUpdate}
+use Rattle.reader.specs.Reader.{parseTextAt, parseValueAt}
+use Rattle.message.specs.Reader.{parseBehindId, parseAfterName, parseAssignment, parseBehindUpdateId, parseUpdate}
 use Rattle.message.specs.declared.AssignmentRead.{AssignmentRead}
 use Rattle.message.specs.declared.AssignmentRead.the-variants as A
 use Rattle.message.specs.declared.UpdateRead.{UpdateRead}
 use Rattle.message.specs.declared.UpdateRead.the-variants as U
-
--- "1 to 14"
-pub record RefusalNumber (number : ℕ) : Type 0 where
-  pub above : 1 ≤ number
-  pub below : number ≤ 14
 
 pub refusal-number : (number : ℕ) → 1 ≤ number → number ≤ 14 → RefusalNumber number
 refusal-number number a b = record { above = a; below = b }
@@ -128,7 +124,7 @@ after-name-rightly allowed at m =
     go (Taken n) f = AssignmentRefused.taken
 
 pub assignment-rightly : (allowed : ℕ → Bool) (m : List ℕ) → AssignmentRefused (parseAssignment allowed m)
-unfolding parseAssignment parseName
+unfolding parseAssignment parseTextAt
 assignment-rightly allowed m = go _ (moved-rightly 1 _ (text-rightly 66 0 (drop 1 m)))
   where
     go : (r : Parsed) → RefusedRightly r → AssignmentRefused (andThen A.Refused r (λ size. parseAfterName allowed (1 + size) m))
@@ -136,7 +132,7 @@ assignment-rightly allowed m = go _ (moved-rightly 1 _ (text-rightly 66 0 (drop 
     go (Taken n) f = after-name-rightly allowed (1 + n) m
 
 pub update-rightly : (held : ℕ → Bool) (typeOf : ℕ → ℕ) (m : List ℕ) → UpdateRefused (parseUpdate held typeOf m)
-unfolding parseUpdate parseValueAt
+unfolding parseBehindUpdateId parseUpdate parseValueAt
 update-rightly held typeOf m =
     by-test UpdateRefused _ _ _ (λ _. by-test UpdateRefused _ _ _ (λ _. by-test UpdateRefused _ _ _ (λ _.
     go _ (moved-rightly 5 _ (value-rightly (typeOf (decode16 (drop 1 m))) (drop 5 m))))

@@ -4,7 +4,7 @@ use mathlib.Core.Bool.{Bool, true}
 use mathlib.Core.List.{List}
 use Prim.Native.Nat.{ℕ, _+_, _-_, _≤_}
 use native.Mathlib.Omega.{arith}
-use lib.ListN.{length, take, drop, length-take, length-drop}
+use lib.ListN.{length, take, drop, getD, length-take, length-drop}
 use lib.Seq.{drop-drop}
 use borrow.Author.Tests.{leb-true}
 use Rattle.field.specs.Octets.{decode16}
@@ -18,8 +18,9 @@ use Rattle.text.specs.Text.{parseText}
 use Rattle.text.proofs.TextLaws.{TextIs, text-is}
 use Rattle.value.specs.Value.{maxValueSize, parseValue, IsValue}
 use Rattle.value.proofs.ValueLaws.{value-fits, value-small, value-whole}
-use Rattle.message.specs.Layout.{Entry, WellFormed, maxNameLength}
-use Rattle.message.specs.Reader.{parseName, parseValueAt, parseBehindId, parseAfterName, parseAssignment, parseUpdate, nameIn, valueIn}
+use Rattle.reader.specs.Reader.{parseTextAt, parseValueAt}
+use Rattle.message.specs.Layout.{WellFormed, maxNameLength}
+use Rattle.message.specs.Reader.{parseBehindId, parseAfterName, parseAssignment, parseBehindUpdateId, parseUpdate, entryIn}
 use Rattle.message.specs.declared.AssignmentRead.{AssignmentRead}
 use Rattle.message.specs.declared.AssignmentRead.the-variants as A
 use Rattle.message.specs.declared.UpdateRead.{UpdateRead}
@@ -27,25 +28,27 @@ use Rattle.message.specs.declared.UpdateRead.the-variants as U
 
 -- ---- an assignment
 
--- the entry that an assignment's bytes hold, with a number
-abbrev pub cutEntry : List ℕ → (nameLength type number valueLength : ℕ) → Entry
-cutEntry m nameLength type number valueLength =
-    record { name = nameIn nameLength m; type = type; number = number; value = valueIn nameLength valueLength m }
+-- its fields are those at their places; n is its name's length
+pub record AssignmentFields (m : List ℕ) (n t id number : ℕ) : Type 0 where
+  pub name-is : n ≡ decode16 (drop 1 m)
+  pub type-is : t ≡ getD m (3 + n) 0
+  pub id-is : id ≡ decode16 (drop (3 + n + 1) m)
+  pub number-is : number ≡ decode16 (drop (3 + n + 3) m)
 
 pub data AssignmentIs (allowed : ℕ → Bool) (m : List ℕ) : AssignmentRead → Type 0 where
   refused : {fault : Fault} → AssignmentIs allowed m (A.Refused fault)
-  taken : {n t id q v : ℕ} → allowed id ≡ true → 8 + n + v ≤ length m → ((number : ℕ) → WellFormed (cutEntry m n t number v))
-      → AssignmentIs allowed m (A.Assignment n t id q v)
+  taken : {n t id q v : ℕ} → allowed id ≡ true → 8 + n + v ≤ length m → ((number : ℕ) → WellFormed (entryIn n t number v m))
+      → AssignmentFields m n t id q → AssignmentIs allowed m (A.Assignment n t id q v)
 
 -- a name of n bytes behind the kind
 record NameAt (m : List ℕ) (n : ℕ) : Type 0 where
   name-fits : n ≤ 64
   name-text : isUtf8 (take n (drop 3 m)) ≡ true
 
-value-is : (allowed : ℕ → Bool) (m : List ℕ) (n t id q : ℕ) → NameAt m n → allowed id ≡ true → 3 + n + 5 ≤ length m
+value-is : (allowed : ℕ → Bool) (m : List ℕ) (n t id q : ℕ) → NameAt m n → AssignmentFields m n t id q → allowed id ≡ true → 3 + n + 5 ≤ length m
     → AssignmentIs allowed m (andThen A.Refused (parseValueAt t (3 + n + 5) m) (λ v. A.Assignment n t id q v))
 unfolding parseValueAt
-value-is allowed m n t id q name a there = go (parseValue t (drop (3 + n + 5) m)) refl
+value-is allowed m n t id q name fields a there = go (parseValue t (drop (3 + n + 5) m)) refl
   where
     go : (r : Parsed) → parseValue t (drop (3 + n + 5) m) ≡ r
         → AssignmentIs allowed m (andThen A.Refused (movedBy (3 + n + 5) r) (λ v. A.Assignment n t id q v))
@@ -59,25 +62,25 @@ value-is allowed m n t id q name a there = go (parseValue t (drop (3 + n + 5) m)
           name-fits = omega (arith, length-take n (drop 3 m), name .name-fits);
           name-text = name .name-text;
           value-whole = value-whole t (drop (8 + n) m) v f;
-        })
+        }) fields
 
-after-name-is : (allowed : ℕ → Bool) (m : List ℕ) (n : ℕ) → NameAt m n → AssignmentIs allowed m (parseAfterName allowed (3 + n) m)
+after-name-is : (allowed : ℕ → Bool) (m : List ℕ) (n : ℕ) → NameAt m n → n ≡ decode16 (drop 1 m) → AssignmentIs allowed m (parseAfterName allowed (3 + n) m)
 unfolding parseAfterName parseBehindId
-after-name-is allowed m n name =
+after-name-is allowed m n name e =
     let n-is : 3 + n - 3 ≡ n = omega arith in
     rw n-is
     (by-test P _ _ _ (λ _.
     by-test P _ _ _ (λ _.
     by-test P _ _ _ (λ _.
     by-test P _ _ _ (λ a.
-    by-test P _ _ _ (λ h. value-is allowed m n _ _ _ name a (leb-true _ _ h))
+    by-test P _ _ _ (λ h. value-is allowed m n _ _ _ name (record { name-is = e; type-is = refl; id-is = refl; number-is = refl }) a (leb-true _ _ h))
     (λ _. refused)) (λ _. refused)) (λ _. refused)) (λ _. refused)) (λ _. refused))
   where
     P : AssignmentRead → Type 0
     P = AssignmentIs allowed m
 
 pub assignment-is : (allowed : ℕ → Bool) (m : List ℕ) → AssignmentIs allowed m (parseAssignment allowed m)
-unfolding parseAssignment parseName
+unfolding parseAssignment parseTextAt
 assignment-is allowed m = go (parseText 66 0 (drop 1 m)) (text-is 66 0 (drop 1 m))
   where
     go : (r : Parsed) → TextIs 66 0 (drop 1 m) r → AssignmentIs allowed m (andThen A.Refused (movedBy 1 r) (λ size. parseAfterName allowed (1 + size) m))
@@ -87,23 +90,24 @@ assignment-is allowed m = go (parseText 66 0 (drop 1 m)) (text-is 66 0 (drop 1 m
         let place : 1 + k ≡ 3 + n = omega arith in
         let name : isUtf8 (take n (drop 3 m)) ≡ true = rw (drop-drop 2 1 m) at u in
         rw place
-        (after-name-is allowed m n (record { name-fits = omega arith; name-text = name }))
+        (after-name-is allowed m n (record { name-fits = omega arith; name-text = name }) refl)
 
 pub assignment-taken : (allowed : ℕ → Bool) (m : List ℕ) (n t id q v : ℕ) → parseAssignment allowed m ≡ A.Assignment n t id q v
-    → (allowed id ≡ true) × (8 + n + v ≤ length m) × ((number : ℕ) → WellFormed (cutEntry m n t number v))
+    → (allowed id ≡ true) × (8 + n + v ≤ length m) × ((number : ℕ) → WellFormed (entryIn n t number v m))
 assignment-taken allowed m n t id q v e = go (rw e at (assignment-is allowed m))
   where
-    go : AssignmentIs allowed m (A.Assignment n t id q v) → (allowed id ≡ true) × (8 + n + v ≤ length m) × ((number : ℕ) → WellFormed (cutEntry m n t number v))
-    go (AssignmentIs.taken a h w) = (a, h, w)
+    go : AssignmentIs allowed m (A.Assignment n t id q v) → (allowed id ≡ true) × (8 + n + v ≤ length m) × ((number : ℕ) → WellFormed (entryIn n t number v m))
+    go (AssignmentIs.taken a h w f) = (a, h, w)
 
 -- ---- an update
 
 pub data UpdateIs (held : ℕ → Bool) (typeOf : ℕ → ℕ) (m : List ℕ) : UpdateRead → Type 0 where
   refused : {fault : Fault} → UpdateIs held typeOf m (U.Refused fault)
-  taken : {id q v : ℕ} → held id ≡ true → 5 + v ≤ length m → IsValue (typeOf id) (take v (drop 5 m)) → UpdateIs held typeOf m (U.Update id q v)
+  taken : {id q v : ℕ} → held id ≡ true → 5 + v ≤ length m → IsValue (typeOf id) (take v (drop 5 m)) → id ≡ decode16 (drop 1 m) → q ≡ decode16 (drop 3 m)
+      → UpdateIs held typeOf m (U.Update id q v)
 
 pub update-is : (held : ℕ → Bool) (typeOf : ℕ → ℕ) (m : List ℕ) → UpdateIs held typeOf m (parseUpdate held typeOf m)
-unfolding parseUpdate parseValueAt
+unfolding parseBehindUpdateId parseUpdate parseValueAt
 update-is held typeOf m =
     by-test P _ _ _ (λ _. by-test P _ _ _ (λ h. by-test P _ _ _ (λ l. go h (leb-true _ _ l) _ refl)
     (λ _. UpdateIs.refused)) (λ _. UpdateIs.refused)) (λ _. UpdateIs.refused)
@@ -116,18 +120,18 @@ update-is held typeOf m =
     go h l (Refused fault) e = UpdateIs.refused
     go h l (Taken v) e =
         let all-there : 5 + v ≤ length m = omega (arith, value-fits (typeOf (decode16 (drop 1 m))) (drop 5 m) v e, length-drop 5 m) in
-        UpdateIs.taken h all-there (value-whole (typeOf (decode16 (drop 1 m))) (drop 5 m) v e)
+        UpdateIs.taken h all-there (value-whole (typeOf (decode16 (drop 1 m))) (drop 5 m) v e) refl refl
 
 pub update-taken : (held : ℕ → Bool) (typeOf : ℕ → ℕ) (m : List ℕ) (id q v : ℕ) → parseUpdate held typeOf m ≡ U.Update id q v
     → (held id ≡ true) × (5 + v ≤ length m) × IsValue (typeOf id) (take v (drop 5 m))
 update-taken held typeOf m id q v e = go (rw e at (update-is held typeOf m))
   where
     go : UpdateIs held typeOf m (U.Update id q v) → (held id ≡ true) × (5 + v ≤ length m) × IsValue (typeOf id) (take v (drop 5 m))
-    go (UpdateIs.taken a h w) = (a, h, w)
+    go (UpdateIs.taken a h w i n) = (a, h, w)
 
 -- ---- how long name and value are
 
-part-length : (from n : ℕ) (m : List ℕ) → from + n ≤ length m → length (take n (drop from m)) ≡ n
+pub part-length : (from n : ℕ) (m : List ℕ) → from + n ≤ length m → length (take n (drop from m)) ≡ n
 part-length from n m h = simp (length-take, length-drop) (omega arith)
 
 pub assignment-fits : (allowed : ℕ → Bool) (m : List ℕ) (n t id q v : ℕ) → parseAssignment allowed m ≡ A.Assignment n t id q v

@@ -71,9 +71,12 @@ updateNumberStart = 3
 abbrev pub updateValueStart : ℕ
 updateValueStart = 5
 
--- "The longest assignment is 328 bytes"
+-- "The longest assignment is 328 bytes, the longest update 261"
 abbrev pub longestAssignment : ℕ
 longestAssignment = assignmentFixed + maxNameLength + maxValueSize
+
+abbrev pub longestUpdate : ℕ
+longestUpdate = updateValueStart + maxValueSize
 
 -- "assignment: name, type (1), ID (2), number (2), value"; "Names are laid out as Strings"
 unfoldable pub assignmentBytes : ℕ → Entry → List ℕ
@@ -110,7 +113,7 @@ pub record WellFormed (e : Entry) : Type 0 where
   pub name-text : isUtf8 (e .name) ≡ true
   pub value-whole : IsValue (e .type) (e .value)
 
--- a message whose name and value obey this paper; an update's type is t
+-- a message whose name and value obey the rules; an update's type is t
 abbrev pub WellFormedMessage : ℕ → Message → Type 0
 WellFormedMessage t keepAlive = Unit {0}
 WellFormedMessage t (hello revision) = Unit {0}

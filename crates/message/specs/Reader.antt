@@ -1,19 +1,20 @@
 -- The reader of one message. A place is counted from the message's first byte.
-use Prim.Native.Nat.{ℕ, _+_, _-_}
+use Prim.Native.Nat.{ℕ, _+_, _-_, _≤_, _<_}
 use mathlib.Core.Bool.{Bool, true, false}
-use mathlib.Core.List.{List}
+use mathlib.Core.List.{List, _++_}
+use mathlib.Core.Path.{_≡_}
 use mathlib.Core.Option.{Option, none, some}
-use lib.ListN.{take, drop, getD}
+use lib.ListN.{length, take, drop, getD}
 use lib.Dec.{eqb}
-use Rattle.field.specs.Answer.{done, incomplete, unknownKind, wrongId, unknownId, unknownType}
+use Rattle.field.specs.Answer.{done, incomplete, unknownKind, wrongId, unknownId, unknownType, RefusalNumber}
 use Rattle.field.specs.Choice.{pick, demand}
 use Rattle.field.specs.Octets.{decode16}
-use Rattle.field.specs.Field.{faultAt, demandBytes, movedBy, andThen}
+use Rattle.field.specs.Field.{faultAt, demandBytes, andThen}
 use Rattle.field.specs.declared.Parsed.{Parsed}
-use Rattle.field.specs.declared.Parsed.the-variants.{Refused}
-use Rattle.text.specs.Text.{prefixSize, parseText}
-use Rattle.value.specs.Value.{knownType, parseValue}
-use Rattle.message.specs.Layout.{Message, keepAlive, hello, unsupported, helloComplete, assignment, update, maxNameLength, keepAliveKind, helloKind, unsupportedKind, helloCompleteKind, assignmentKind, updateKind, kindSize, revisionLength, assignmentNameStart, idBehindName, numberBehindName, valueBehindName, assignmentFixed, updateNumberStart, updateValueStart}
+use Rattle.text.specs.Text.{prefixSize}
+use Rattle.value.specs.Value.{knownType}
+use Rattle.reader.specs.Reader.{parseTextAt, parseValueAt}
+use Rattle.message.specs.Layout.{Entry, Message, keepAlive, hello, unsupported, helloComplete, assignment, update, maxNameLength, keepAliveKind, helloKind, unsupportedKind, helloCompleteKind, assignmentKind, updateKind, kindSize, revisionLength, assignmentNameStart, idBehindName, numberBehindName, valueBehindName, assignmentFixed, updateNumberStart, updateValueStart, layout, WellFormedMessage}
 use Rattle.message.specs.declared.AllowedId.{AllowedId}
 use Rattle.message.specs.declared.AllowedId.the-variants.{Any, Only}
 use Rattle.message.specs.declared.AssignmentRead.{AssignmentRead}
@@ -29,12 +30,8 @@ idAllowed Any id = true
 idAllowed (Only allowed) id = eqb id allowed
 
 -- "Names are laid out as Strings": the name behind an assignment's kind
-unfoldable pub parseName : List ℕ → Parsed
-parseName m = movedBy kindSize (parseText (prefixSize + maxNameLength) 0 (drop kindSize m))
-
--- a value at a place
-unfoldable pub parseValueAt : ℕ → ℕ → List ℕ → Parsed
-parseValueAt t at m = movedBy at (parseValue t (drop at m))
+abbrev pub parseName : List ℕ → Parsed
+parseName m = parseTextAt (prefixSize + maxNameLength) kindSize m
 
 -- an assignment's number and value, behind its type and ID; its name ends at a place
 unfoldable pub parseBehindId : (at type id : ℕ) → List ℕ → AssignmentRead
@@ -57,14 +54,19 @@ unfoldable pub parseAssignment : (ℕ → Bool) → List ℕ → AssignmentRead
 parseAssignment allowed m =
     andThen A.Refused (parseName m) (λ nameSize. parseAfterName allowed (kindSize + nameSize) m)
 
+-- an update's number and value, behind its ID
+unfoldable pub parseBehindUpdateId : (id type : ℕ) → List ℕ → UpdateRead
+parseBehindUpdateId id type m =
+    demandBytes updateValueStart m (U.Refused (faultAt incomplete updateNumberStart))
+    (andThen U.Refused (parseValueAt type updateValueStart m) (λ valueLength.
+    U.Update id (decode16 (drop updateNumberStart m)) valueLength))
+
 -- an update: "the stored entry's type fixes the length, so an unknown ID is refused once it is read"
 unfoldable pub parseUpdate : (ℕ → Bool) → (ℕ → ℕ) → List ℕ → UpdateRead
 parseUpdate held typeOf m =
     demandBytes updateNumberStart m (U.Refused (faultAt incomplete kindSize))
     (demand (held (decode16 (drop kindSize m))) (U.Refused (faultAt unknownId kindSize))
-    (demandBytes updateValueStart m (U.Refused (faultAt incomplete updateNumberStart))
-    (andThen U.Refused (parseValueAt (typeOf (decode16 (drop kindSize m))) updateValueStart m) (λ valueLength.
-    U.Update (decode16 (drop kindSize m)) (decode16 (drop updateNumberStart m)) valueLength))))
+    (parseBehindUpdateId (decode16 (drop kindSize m)) (typeOf (decode16 (drop kindSize m))) m))
 
 -- a kind and a revision: a hello, or the answer to one that is not supported
 unfoldable pub parseRevision : Bool → List ℕ → Decoded
@@ -116,6 +118,11 @@ valueIn nameLength valueLength m = take valueLength (drop (assignmentFixed + nam
 abbrev pub updateValueIn : ℕ → List ℕ → List ℕ
 updateValueIn valueLength m = take valueLength (drop updateValueStart m)
 
+-- the entry that an assignment's bytes hold
+abbrev pub entryIn : (nameLength type number valueLength : ℕ) → List ℕ → Entry
+entryIn nameLength type number valueLength m =
+    record { name = nameIn nameLength m; type = type; number = number; value = valueIn nameLength valueLength m }
+
 -- ""Taken" is the message's own length"
 abbrev pub assignmentLength : (nameLength valueLength : ℕ) → ℕ
 assignmentLength nameLength valueLength = assignmentFixed + nameLength + valueLength
@@ -140,5 +147,20 @@ contents m (D.Hello revision) = some (hello revision)
 contents m (D.Unsupported revision) = some (unsupported revision)
 contents m D.HelloComplete = some helloComplete
 contents m (D.Assignment nameLength type id number valueLength) =
-    some (assignment id (record { name = nameIn nameLength m; type = type; number = number; value = valueIn nameLength valueLength m }))
+    some (assignment id (entryIn nameLength type number valueLength m))
 contents m (D.Update id number valueLength) = some (update id number (updateValueIn valueLength m))
+
+-- every number is a byte's
+abbrev pub Bytes : List ℕ → Type 0
+Bytes m = (i : ℕ) → getD m i 0 < 256
+
+-- the message x stands first in the bytes, whatever is behind it
+abbrev pub BeginsWith : List ℕ → Message → Type 0
+BeginsWith m x = m ≡ layout x ++ drop (length (layout x)) m
+
+-- what reading answers, by its number, the bytes taken and the message that was read: a refusal takes none; a message that was read
+-- obeys the rules, an update's type being t, it stands first, and its bytes are taken
+pub data ReadingIs (t : ℕ) (m : List ℕ) : (number taken : ℕ) → Option Message → Type 0 where
+  refused : {number : ℕ} → RefusalNumber number → ReadingIs t m number 0 none
+  read : {x : Message} {taken : ℕ} → WellFormedMessage t x → taken ≡ length (layout x) → taken ≤ length m → (Bytes m → BeginsWith m x)
+      → ReadingIs t m done taken (some x)

@@ -13,8 +13,10 @@ use text::PREFIX_SIZE;
 ghost use mathlib.Core.Path.{_≡_};
 ghost use Prim.Native.Nat.{_+_, _≤_};
 ghost use lib.ListN.{length};
-ghost use Rattle.message.specs.Layout.{kindSize, assignmentNameStart, numberBehindName};
-ghost use Rattle.message.specs.Reader.{idAllowed, parseName, parseValueAt, parseBehindId, parseAfterName, parseAssignment, parseUpdate, parseRevision, ofAssignment, ofUpdate, parseMessage};
+ghost use Rattle.message.specs.Layout.{assignmentNameStart, numberBehindName};
+ghost use Rattle.message.specs.Reader.{idAllowed, parseBehindId, parseAfterName, parseAssignment};
+ghost use Rattle.message.specs.Reader.{parseBehindUpdateId, parseUpdate, parseRevision};
+ghost use Rattle.message.specs.Reader.{ofAssignment, ofUpdate, parseMessage, numberOf, takenOf, contents, ReadingIs};
 
 // Kinds of messages.
 pub const KEEP_ALIVE: u8 = 0x00;
@@ -50,8 +52,10 @@ pub const VALUE_BEHIND_NAME: usize = 5;
 // How many bytes an assignment has beside its name and value.
 pub const ASSIGNMENT_FIXED: usize = 8;
 
-// How many bytes an assignment has at most: a name of MAX_NAME_LENGTH, and a value of value::MAX_VALUE_SIZE.
-pub const LONGEST_ASSIGNMENT: usize = 328;
+// How many bytes an assignment has at most.
+pub const LONGEST_ASSIGNMENT: usize = ASSIGNMENT_FIXED
+    + (MAX_NAME_LENGTH as usize)
+    + (value::MAX_VALUE_SIZE as usize);
 
 // Where an update's number and value start, behind its kind and ID.
 pub const UPDATE_NUMBER_START: usize = 3;
@@ -114,34 +118,16 @@ fn id_allowed(allowed: AllowedId, id: u16) -> bool
     }
 }
 
-// The name of an assignment, behind its kind.
-fn read_name(m: &[u8]) -> Parsed
-    requires { ⌜ kindSize ≤ length (now m) ⌝ }
-    ensures { λ r. ⌜ r ≡ parseName (now (m .entry)) ⌝ }
-{
-    let name = text::read_text(&m[KIND_SIZE..], 0, (PREFIX_SIZE as u16) + MAX_NAME_LENGTH);
-    field::moved(name, KIND_SIZE)
-}
-
-// A value at a place.
-fn read_value_at(t: u8, m: &[u8], at: usize) -> Parsed
-    requires { ⌜ at ≤ length (now m) ⌝ }
-    ensures { λ r. ⌜ r ≡ parseValueAt t at (now (m .entry)) ⌝ }
-{
-    let v = value::read_value(t, &m[at..]);
-    field::moved(v, at)
-}
-
 // An assignment's number and value, behind its type and ID; its name ends at a place.
 fn read_behind_id(m: &[u8], at: usize, type_code: u8, id: u16) -> AssignmentRead
     requires { ⌜ (assignmentNameStart ≤ at) × (at + numberBehindName ≤ length (now m)) ⌝ }
     ensures { λ r. ⌜ r ≡ parseBehindId at «type_code» id (now (m .entry)) ⌝ }
 {
     let number_at = at + NUMBER_BEHIND_NAME;
-    let Number::There(number) = field::read_u16(m, number_at) else {
+    let Number::There(number) = reader::number_at(m, number_at) else {
         return AssignmentRead::Refused(fault_at(INCOMPLETE, number_at));
     };
-    let v = read_value_at(type_code, m, at + VALUE_BEHIND_NAME);
+    let v = reader::value_at(m, at + VALUE_BEHIND_NAME, type_code);
     let Parsed::Taken(value_length) = v else {
         return AssignmentRead::Refused(fault_of(v));
     };
@@ -160,14 +146,14 @@ fn read_after_name(m: &[u8], at: usize, allowed: AllowedId) -> AssignmentRead
     requires { ⌜ (assignmentNameStart ≤ at) × (at ≤ length (now m)) ⌝ }
     ensures { λ r. ⌜ r ≡ parseAfterName (idAllowed allowed) at (now (m .entry)) ⌝ }
 {
-    let Octet::There(type_code) = field::read_u8(m, at) else {
+    let Octet::There(type_code) = reader::octet_at(m, at) else {
         return AssignmentRead::Refused(fault_at(INCOMPLETE, at));
     };
     if !value::known_type(type_code) {
         return AssignmentRead::Refused(fault_at(UNKNOWN_TYPE, at));
     }
     let id_at = at + ID_BEHIND_NAME;
-    let Number::There(id) = field::read_u16(m, id_at) else {
+    let Number::There(id) = reader::number_at(m, id_at) else {
         return AssignmentRead::Refused(fault_at(INCOMPLETE, id_at));
     };
     if !id_allowed(allowed, id) {
@@ -178,27 +164,23 @@ fn read_after_name(m: &[u8], at: usize, allowed: AllowedId) -> AssignmentRead
 
 // An assignment: its kind is the first byte.
 pub fn read_assignment(m: &[u8], allowed: AllowedId) -> AssignmentRead
-    requires { ⌜ kindSize ≤ length (now m) ⌝ }
     ensures { λ r. ⌜ r ≡ parseAssignment (idAllowed allowed) (now (m .entry)) ⌝ }
 {
-    let name = read_name(m);
+    let name = reader::text_at(m, KIND_SIZE, (PREFIX_SIZE as u16) + MAX_NAME_LENGTH);
     let Parsed::Taken(name_size) = name else {
         return AssignmentRead::Refused(fault_of(name));
     };
     read_after_name(m, KIND_SIZE + name_size, allowed)
 }
 
-// An update of any ID, whose type is known: its kind is the first byte.
-pub fn read_update(m: &[u8], type_code: u8) -> UpdateRead
-    ensures { λ r. ⌜ r ≡ parseUpdate (idAllowed AllowedId.Any) (λ id. «type_code») (now (m .entry)) ⌝ }
+// An update's number and value, behind its ID.
+pub fn read_behind_update_id(m: &[u8], id: u16, type_code: u8) -> UpdateRead
+    ensures { λ r. ⌜ r ≡ parseBehindUpdateId id «type_code» (now (m .entry)) ⌝ }
 {
-    let Number::There(id) = field::read_u16(m, KIND_SIZE) else {
-        return UpdateRead::Refused(fault_at(INCOMPLETE, KIND_SIZE));
-    };
-    let Number::There(number) = field::read_u16(m, UPDATE_NUMBER_START) else {
+    let Number::There(number) = reader::number_at(m, UPDATE_NUMBER_START) else {
         return UpdateRead::Refused(fault_at(INCOMPLETE, UPDATE_NUMBER_START));
     };
-    let v = read_value_at(type_code, m, UPDATE_VALUE_START);
+    let v = reader::value_at(m, UPDATE_VALUE_START, type_code);
     let Parsed::Taken(value_length) = v else {
         return UpdateRead::Refused(fault_of(v));
     };
@@ -207,6 +189,16 @@ pub fn read_update(m: &[u8], type_code: u8) -> UpdateRead
         number: number,
         value_length: value_length,
     }
+}
+
+// An update of any ID, whose type is known: its kind is the first byte.
+pub fn read_update(m: &[u8], type_code: u8) -> UpdateRead
+    ensures { λ r. ⌜ r ≡ parseUpdate (idAllowed AllowedId.Any) (λ id. «type_code») (now (m .entry)) ⌝ }
+{
+    let Number::There(id) = reader::number_at(m, KIND_SIZE) else {
+        return UpdateRead::Refused(fault_at(INCOMPLETE, KIND_SIZE));
+    };
+    read_behind_update_id(m, id, type_code)
 }
 
 fn decoded_assignment(a: AssignmentRead) -> Decoded
@@ -251,7 +243,7 @@ fn decoded_update(u: UpdateRead) -> Decoded
 fn read_revision(m: &[u8], hello: bool) -> Decoded
     ensures { λ r. ⌜ r ≡ parseRevision hello (now (m .entry)) ⌝ }
 {
-    let Number::There(revision) = field::read_u16(m, KIND_SIZE) else {
+    let Number::There(revision) = reader::number_at(m, KIND_SIZE) else {
         return Decoded::Refused(fault_at(INCOMPLETE, KIND_SIZE));
     };
     if hello {
@@ -262,9 +254,11 @@ fn read_revision(m: &[u8], hello: bool) -> Decoded
 
 // One message, any kind and ID; an update's type is given.
 pub fn read_message(m: &[u8], update_type: u8) -> Decoded
-    ensures { λ r. ⌜ r ≡ parseMessage «update_type» (now (m .entry)) ⌝ }
+    ensures fields { λ r. ⌜ r ≡ parseMessage «update_type» (now (m .entry)) ⌝ }
+    ensures answer { λ r.
+        ⌜ ReadingIs «update_type» (now (m .entry)) (numberOf r) (takenOf r) (contents (now (m .entry)) r) ⌝ }
 {
-    let Octet::There(kind) = field::read_u8(m, 0) else {
+    let Octet::There(kind) = reader::octet_at(m, 0) else {
         return Decoded::Refused(fault_at(INCOMPLETE, 0));
     };
     match kind {

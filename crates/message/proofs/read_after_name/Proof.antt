@@ -3,7 +3,7 @@ use Rattle.message.specs.Reader.{parseBehindId, parseAfterName, idAllowe
 use Rattle.message.specs.declared.AssignmentRead.the-variants as A
 use Rattle.message.proofs.ReaderLaws.{after-id}
 use mathlib.Core.Path.{_≡_, sym, _∙_}
-use Prim.Native.Nat.{ℕ, _+_, _-_, _≤_}
+use Prim.Native.Nat.{ℕ, _+_, _≤_}
 use mathlib.Core.List.{List}
 use native.Mathlib.Omega.{arith}
 use lib.ListN.{length, drop, getD}
@@ -29,11 +29,11 @@ abbrev place : tie.After-type-code → ℕ
 place c = c .before .before .before .before .args .at
 
 type-there : (c : tie.After-type-code) → (place c + 1 ≤ length (message c)) × (c .type-code .given .0 .0 ≡ getD (message c) (place c) 0)
-type-there c = octet-there (message c) (place c) (c .type-code .given .0 .0) (sym (c .type-code .given .1) ∙ c .before .before .read-u8 .ensures)
+type-there c = octet-there (message c) (place c) (c .type-code .given .0 .0) (sym (c .type-code .given .1) ∙ c .before .before .octet-at .ensures)
 
 id-there : (c : tie.After-id) → (place (to-type c) + 1 + 2 ≤ length (message (to-type c))) × (c .id .given .0 .0 ≡ decode16 (drop (place (to-type c) + 1) (message (to-type c))))
 unfolding to-type
-id-there c = number-there (message (to-type c)) (place (to-type c) + 1) (c .id .given .0 .0) (sym (c .id .given .1) ∙ c .before .before .read-u16 .ensures)
+id-there c = number-there (message (to-type c)) (place (to-type c) + 1) (c .id .given .0 .0) (sym (c .id .given .1) ∙ c .before .before .number-at .ensures)
 
 -- what is left to decide behind the ID
 left-to-decide : (c : tie.After-id) → parseAfterName (idAllowed (to-type c .before .before .before .before .args .allowed)) (place (to-type c)) (message (to-type c))
@@ -48,8 +48,8 @@ left-to-decide c =
     after-id (idAllowed (t .before .before .before .before .args .allowed)) (place t) (t .type-code .given .0 .0) (c .id .given .0 .0) (message t) (omega (arith, i .0)) (h .1)
     (sym (k .before .known-type .ensures) ∙ not-false (k .before .known-type .result) (k .if1 .left)) (i .1)
 
-read-u8-requires : tie.Need-read-u8-requires
-read-u8-requires c κs = search needs
+octet-at-requires : tie.Need-octet-at-requires
+octet-at-requires c κs = search needs
 
 enum-known-type-code : tie.Need-enum-known-type-code
 enum-known-type-code c = search needs
@@ -65,7 +65,7 @@ unfolding parseAfterName pick
 returns d =
     let c = d .before in
     let a = c .before .before .before .before .args in
-    let h = octet-missing (a .m .now) (a .at) (sym (c .enum-told .given .1) ∙ c .before .before .read-u8 .ensures) in
+    let h = octet-missing (a .m .now) (a .at) (sym (c .enum-told .given .1) ∙ c .before .before .octet-at .ensures) in
     rw (d .fault-at .ensures, lt-leb (a .at + 1) (length (a .m .now)) h)
 
 known-type-requires : tie.Need-known-type-requires
@@ -85,8 +85,8 @@ returns-2 d =
 add-id-at : tie.Need-add-id-at
 add-id-at c = search needs
 
-read-u16-requires : tie.Need-read-u16-requires
-read-u16-requires c κs = search needs
+number-at-requires : tie.Need-number-at-requires
+number-at-requires c κs = search needs
 
 enum-known-id : tie.Need-enum-known-id
 enum-known-id c = search needs
@@ -104,7 +104,7 @@ returns-3 d =
     let k = c .before .before .before in
     let t = k .before .before .before in
     let h = type-there t in
-    let l = number-missing (message t) (place t + 1) (sym (c .enum-told2 .given .1) ∙ c .before .before .read-u16 .ensures) in
+    let l = number-missing (message t) (place t + 1) (sym (c .enum-told2 .given .1) ∙ c .before .before .number-at .ensures) in
     rw (d .fault-at3 .ensures, le-leb _ _ (h .0), ← (h .1), ← (k .before .known-type .ensures), not-false (k .before .known-type .result) (k .if1 .left), lt-leb (place t + 3) (length (message t)) (omega arith))
 
 id-allowed-requires : tie.Need-id-allowed-requires
@@ -134,7 +134,7 @@ pub read-after-name-spec : {M : Type 1} → statement M
 read-after-name-spec =
     tie.close
     (tie.spec
-    read-u8-requires
+    octet-at-requires
     enum-known-type-code
     enum-told
     fault-at-requires
@@ -143,7 +143,7 @@ read-after-name-spec =
     fault-at-requires-2
     returns-2
     add-id-at
-    read-u16-requires
+    number-at-requires
     enum-known-id
     enum-told-2
     fault-at-requires-3

@@ -21,13 +21,13 @@ place c = c .before .before .before .before .args .at
 
 -- the number is there
 there : (c : tie.After-number) → (place c + 3 + 2 ≤ length (message c)) × (c .number .given .0 .0 ≡ decode16 (drop (place c + 3) (message c)))
-there c = number-there (message c) (place c + 3) (c .number .given .0 .0) (sym (c .number .given .1) ∙ c .before .before .read-u16 .ensures)
+there c = number-there (message c) (place c + 3) (c .number .given .0 .0) (sym (c .number .given .1) ∙ c .before .before .number-at .ensures)
 
 add-number-at : tie.Need-add-number-at
 add-number-at c = search needs
 
-read-u16-requires : tie.Need-read-u16-requires
-read-u16-requires c κs = search needs
+number-at-requires : tie.Need-number-at-requires
+number-at-requires c κs = search needs
 
 enum-known-number : tie.Need-enum-known-number
 enum-known-number c = search needs
@@ -43,14 +43,14 @@ unfolding parseBehindId pick
 returns d =
     let c = d .before in
     let a = c .before .before .before .before .args in
-    let l = number-missing (a .m .now) (a .at + 3) (sym (c .enum-told .given .1) ∙ c .before .before .read-u16 .ensures) in
+    let l = number-missing (a .m .now) (a .at + 3) (sym (c .enum-told .given .1) ∙ c .before .before .number-at .ensures) in
     rw (d .fault-at .ensures, lt-leb (a .at + 5) (length (a .m .now)) (omega arith))
 
-add-read-value-at : tie.Need-add-read-value-at
-add-read-value-at c = search needs
+add-value-at : tie.Need-add-value-at
+add-value-at c = search needs
 
-read-value-at-requires : tie.Need-read-value-at-requires
-read-value-at-requires c κs = omega (arith, there (c .before) .0)
+value-at-requires : tie.Need-value-at-requires
+value-at-requires c κs = omega (arith, there (c .before) .0)
 
 enum-known-v : tie.Need-enum-known-v
 enum-known-v c = search needs
@@ -66,7 +66,7 @@ unfolding parseBehindId pick
 returns-2 c =
     let v = c .before .before .before in
     let n = v .before .before in
-    rw (c .fault-of .ensures, le-leb (place n + 5) (length (message n)) (omega (arith, there n .0)), ← (v .read-value-at .ensures), c .before .enum-told2 .given .1)
+    rw (c .fault-of .ensures, le-leb (place n + 5) (length (message n)) (omega (arith, there n .0)), ← (v .value-at .ensures), c .before .enum-told2 .given .1)
 
 sub-name-length : tie.Need-sub-name-length
 sub-name-length c = search needs
@@ -76,20 +76,20 @@ unfolding parseBehindId pick
 returns-3 c =
     let v = c .before .before .before in
     let n = v .before .before in
-    rw (le-leb (place n + 5) (length (message n)) (omega (arith, there n .0)), ← (v .read-value-at .ensures), c .before .v .given .1, ← (there n .1))
+    rw (le-leb (place n + 5) (length (message n)) (omega (arith, there n .0)), ← (v .value-at .ensures), c .before .v .given .1, ← (there n .1))
 
 pub read-behind-id-spec : {M : Type 1} → statement M
 read-behind-id-spec =
     tie.close
     (tie.spec
     add-number-at
-    read-u16-requires
+    number-at-requires
     enum-known-number
     enum-told
     fault-at-requires
     returns
-    add-read-value-at
-    read-value-at-requires
+    add-value-at
+    value-at-requires
     enum-known-v
     enum-told-2
     fault-of-requires

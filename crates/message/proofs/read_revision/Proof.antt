@@ -13,10 +13,10 @@ use Rattle.message.proofs.read_revision.Statement.{statement}
 use Rattle.message.proofs.read_revision.Tie as tie
 
 there : (c : tie.After-revision) → (3 ≤ length (c .before .before .before .before .args .m .now)) × (c .revision .given .0 .0 ≡ decode16 (drop 1 (c .before .before .before .before .args .m .now)))
-there c = number-there (c .before .before .before .before .args .m .now) 1 (c .revision .given .0 .0) (sym (c .revision .given .1) ∙ c .before .before .read-u16 .ensures)
+there c = number-there (c .before .before .before .before .args .m .now) 1 (c .revision .given .0 .0) (sym (c .revision .given .1) ∙ c .before .before .number-at .ensures)
 
-read-u16-requires : tie.Need-read-u16-requires
-read-u16-requires c κs = search needs
+number-at-requires : tie.Need-number-at-requires
+number-at-requires c κs = search needs
 
 enum-known-revision : tie.Need-enum-known-revision
 enum-known-revision c = search needs
@@ -32,7 +32,7 @@ unfolding parseRevision pick
 returns d =
     let c = d .before in
     let m = c .before .before .before .before .args .m .now in
-    let l = number-missing m 1 (sym (c .enum-told .given .1) ∙ c .before .before .read-u16 .ensures) in
+    let l = number-missing m 1 (sym (c .enum-told .given .1) ∙ c .before .before .number-at .ensures) in
     rw (d .fault-at .ensures, lt-leb 3 (length m) (omega arith))
 
 returns-2 : tie.Need-returns-2
@@ -50,4 +50,4 @@ returns-3 c =
 pub read-revision-spec : {M : Type 1} → statement M
 read-revision-spec =
     tie.close
-    (tie.spec read-u16-requires enum-known-revision enum-told fault-at-requires returns returns-2 returns-3)
+    (tie.spec number-at-requires enum-known-revision enum-told fault-at-requires returns returns-2 returns-3)

@@ -1,14 +1,8 @@
--- `reader::number` meets its contract, by `Reading.antt`'s walk. All that is known of `field::read_u16` is that it meets its contract.
-use mathlib.Core.List.{[], _∷_}
-use contract.Running.{givenOf, tables}
-use denote.Enum.Laws as EL
-use denote.Triple.Table.{cited}
+-- `reader::number` meets its contract, by the walk in `Reading.antt`. All that is known of `field::read_u16` is that it meets its contract.
 use Rattle.field.specs.Field.{numberAt}
-use Rattle.field.proofs.Number as S
-use Rattle.field.proofs.Number.Laws as S′
 use Rattle.field.proofs.read_u16.Symbol as read
 use Rattle.field.proofs.read_u16.Met as read-thm
-use Rattle.reader.proofs.Walk.{fieldForm, readForm, Promise, meets}
+use Rattle.reader.proofs.Walk.{number}
 use Rattle.reader.proofs.Reading.{reads}
 use Rattle.reader.proofs.number.Key.{name}
 use Rattle.reader.proofs.number.Statement.{statement}
@@ -17,7 +11,4 @@ use Rattle.reader.proofs.number.Code as code
 pub number-spec : {M : Type 1} → statement M
 unfolding code.routine
 number-spec 𝓤 H 𝓜 𝓖 𝓡 =
-    meets 𝓤 H 𝓜 𝓖 𝓡 (readForm S.the-row numberAt) code.env name code.function (code.unfolded 𝓤 H 𝓜 𝓡) (λ fm.
-    reads S.the-row S′.mir numberAt 𝓤 H (𝓖 .A) (givenOf 𝓤 H 𝓜 𝓖) (λ r v is. EL.lawful S.the-type S′.the-laws 𝓤 H (𝓖 .A) (givenOf 𝓤 H 𝓜 𝓖) tt .typed r (v ∷ []) is .0)
-    (tables 𝓤 H 𝓜 𝓡 code.env .C) (tables 𝓤 H 𝓜 𝓡 code.env .Λ) fm read.name
-    (cited 𝓤 H (Promise 𝓤 H (𝓖 .A) (fieldForm S.the-row numberAt)) 𝓜 𝓡 code.env read.name read.routine code.calls-field·read-u16 (read-thm.met 𝓤 H 𝓜 𝓖 𝓡)))
+    reads 𝓤 H 𝓜 𝓖 𝓡 number code.env name read.name read.routine code.calls-field·read-u16 numberAt (code.unfolded 𝓤 H 𝓜 𝓡) (read-thm.met 𝓤 H 𝓜 𝓖 𝓡)
