@@ -1,13 +1,12 @@
 -- Laws of the checks, and of what is answered and written for them.
-use mathlib.Core.Path.{_≡_, refl, ap, _∙_}
-use mathlib.Core.Bool.{true, false}
+use mathlib.Core.Path.{_≡_, refl, _∙_}
+use mathlib.Core.Bool.{true}
 use mathlib.Core.List.{List}
 use Prim.Native.Nat.{ℕ, _+_, _≤_, _<_}
 use native.Mathlib.Omega.{arith}
 use lib.ListN.{length}
-use lib.Dec.{leb}
 use borrow.Author.Tests.{leb-true, le-leb, lt-leb}
-use Rattle.field.specs.Answer.{outputTooShort}
+use Rattle.field.specs.Answer.{notUtf8, tooLong, outputTooShort, RefusalNumber}
 use Rattle.field.specs.Choice.{pick}
 use Rattle.field.specs.Octets.{overwriteAt}
 use Rattle.field.specs.Field.{faultAt, andThen}
@@ -16,23 +15,28 @@ use Rattle.field.specs.declared.Parsed.{Parsed}
 use Rattle.field.specs.declared.Parsed.the-variants.{Refused, Taken}
 use Rattle.field.proofs.ChoiceLaws.{by-test}
 use Rattle.text.specs.Utf8.{isUtf8}
-use Rattle.value.specs.Value.{parseLone}
-use Rattle.value.proofs.ValueLaws.{LoneIs, lone-is, value-small}
+use Rattle.value.specs.Value.{parseLone, IsValue}
+use Rattle.value.proofs.ValueLaws.{LoneIs, lone-is, lone-taken, value-small}
 use Rattle.message.specs.Layout.{Entry, Message, keepAlive, hello, unsupported, helloComplete, assignment, update, layout, keepAliveKind, helloKind, unsupportedKind, helloCompleteKind, assignmentKind, updateKind, WellFormed, WellFormedMessage}
 use Rattle.message.proofs.ReadBack.{length-assignment, length-update}
-use Rattle.writer.specs.Writer.{Fields, entryOf, checkName, Checked, checkAssignment, checkUpdate, checkByKind, check, neededFor, bytesOf, Ready, ready, answerOf, outputOf}
+use Rattle.message.proofs.RefusalLaws.{refusal-number, RefusedRightly, lone-rightly}
+use Rattle.writer.specs.Writer.{Fields, givenEntry, checkName, Checked, checkAssignment, checkUpdate, checkByKind, check, neededFor, bytesOf, Ready, ready, refusal, writeResult, written}
 use Rattle.writer.specs.declared.Encoded.the-variants as E
 
 -- ---- a name and a value
 
 pub data NameIs (name : List ℕ) : Parsed → Type 0 where
-  refused : {fault : Fault} → NameIs name (Refused fault)
+  refused : {fault : Fault} → RefusalNumber (fault .number) → NameIs name (Refused fault)
   taken : {n : ℕ} → n ≡ length name → length name ≤ 64 → isUtf8 name ≡ true → NameIs name (Taken n)
 
 pub name-is : (name : List ℕ) → NameIs name (checkName name)
 unfolding checkName
 name-is name =
-    by-test (NameIs name) _ _ _ (λ h. by-test (NameIs name) _ _ _ (λ u. NameIs.taken refl (leb-true _ _ h) u) (λ _. NameIs.refused)) (λ _. NameIs.refused)
+    by-test (NameIs name) _ _ _ (λ h. by-test (NameIs name) _ _ _ (λ u. NameIs.taken refl (leb-true _ _ h) u) (λ _. no notUtf8 (omega arith) (omega arith)))
+    (λ _. no tooLong (omega arith) (omega arith))
+  where
+    no : (number : ℕ) → 1 ≤ number → number ≤ 14 → NameIs name (Refused (faultAt number 0))
+    no number a b = NameIs.refused (refusal-number number a b)
 
 pub name-taken : (name : List ℕ) (n : ℕ) → checkName name ≡ Taken n → (n ≡ length name) × (length name ≤ 64)
 name-taken name n e = go (rw e at (name-is name))
@@ -48,28 +52,37 @@ lone-taken-is t v n e = go (rw e at (lone-is t v))
 
 -- ---- what the checks allow
 
--- the message is the one that the fields of its kind make, and obeys the rules
+-- a refusal is one of 1 to 14; the message is the one that the fields of its kind make, and obeys the rules
 pub data CheckIs (t : ℕ) : Message → Checked → Type 0 where
-  refused : {x : Message} {fault : Fault} → CheckIs t x (Checked.refused fault)
+  refused : {x : Message} {fault : Fault} → RefusalNumber (fault .number) → CheckIs t x (Checked.refused fault)
   allowed : {x : Message} → WellFormedMessage t x → CheckIs t x (Checked.allowed x)
 
 pub assignment-check : (t id : ℕ) (e : Entry) → CheckIs t (assignment id e) (checkAssignment id e)
 unfolding checkAssignment
-assignment-check t id e = go (checkName (e .name)) (name-is (e .name)) (parseLone (e .type) (e .value)) (lone-is (e .type) (e .value))
+assignment-check t id e = go (checkName (e .name)) (name-is (e .name)) (parseLone (e .type) (e .value)) (lone-is (e .type) (e .value)) (lone-rightly (e .type) (e .value))
   where
-    go : (p : Parsed) → NameIs (e .name) p → (q : Parsed) → LoneIs (e .type) (e .value) q
+    go : (p : Parsed) → NameIs (e .name) p → (q : Parsed) → LoneIs (e .type) (e .value) q → RefusedRightly q
         → CheckIs t (assignment id e) (andThen Checked.refused p (λ _. andThen Checked.refused q (λ _. Checked.allowed (assignment id e))))
-    go (Refused fault) f q g = CheckIs.refused
-    go (Taken n) f (Refused fault) g = CheckIs.refused
-    go (Taken n) (NameIs.taken a b u) (Taken v) (LoneIs.taken l w) = CheckIs.allowed {x = assignment id e} (record { name-fits = b; name-text = u; value-whole = w })
+    go (Refused fault) (NameIs.refused k) q g r = CheckIs.refused k
+    go (Taken n) f (Refused fault) g (RefusedRightly.refused k) = CheckIs.refused k
+    go (Taken n) (NameIs.taken a b u) (Taken v) (LoneIs.taken l w) r = CheckIs.allowed {x = assignment id e} (record { name-fits = b; name-text = u; value-whole = w })
 
 pub update-check : (id number t : ℕ) (v : List ℕ) → CheckIs t (update id number v) (checkUpdate id number t v)
 unfolding checkUpdate
-update-check id number t v = go (parseLone t v) (lone-is t v)
+update-check id number t v = go (parseLone t v) (lone-is t v) (lone-rightly t v)
   where
-    go : (q : Parsed) → LoneIs t v q → CheckIs t (update id number v) (andThen Checked.refused q (λ _. Checked.allowed (update id number v)))
-    go (Refused fault) g = CheckIs.refused
-    go (Taken n) (LoneIs.taken l w) = CheckIs.allowed w
+    go : (q : Parsed) → LoneIs t v q → RefusedRightly q → CheckIs t (update id number v) (andThen Checked.refused q (λ _. Checked.allowed (update id number v)))
+    go (Refused fault) g (RefusedRightly.refused k) = CheckIs.refused k
+    go (Taken n) (LoneIs.taken l w) r = CheckIs.allowed w
+
+-- what obeys the rules is allowed
+pub assignment-allowed : (id : ℕ) (e : Entry) → WellFormed e → checkAssignment id e ≡ Checked.allowed (assignment id e)
+unfolding checkAssignment checkName pick
+assignment-allowed id e w = rw (le-leb (length (e .name)) 64 (w .name-fits), w .name-text, lone-taken (e .type) (e .value) (w .value-whole))
+
+pub update-allowed : (id number t : ℕ) (v : List ℕ) → IsValue t v → checkUpdate id number t v ≡ Checked.allowed (update id number v)
+unfolding checkUpdate
+update-allowed id number t v w = rw (lone-taken t v w)
 
 -- ---- the choice by the kind
 
@@ -90,11 +103,11 @@ module _ (f : Fields) where
   unfolding checkByKind pick
   check-hello-complete k = rw k
 
-  kind-assignment : f .kind ≡ assignmentKind → check f ≡ checkAssignment (f .id) (entryOf f)
+  pub kind-assignment : f .kind ≡ assignmentKind → check f ≡ checkAssignment (f .id) (givenEntry f)
   unfolding checkByKind pick
   kind-assignment k = rw k
 
-  kind-update : f .kind ≡ updateKind → check f ≡ checkUpdate (f .id) (f .number) (f .type) (f .value)
+  pub kind-update : f .kind ≡ updateKind → check f ≡ checkUpdate (f .id) (f .number) (f .type) (f .value)
   unfolding checkByKind pick
   kind-update k = rw k
 
@@ -111,14 +124,14 @@ ready-is t room x (Checked.allowed y) (CheckIs.allowed w) (ready h) = (refl, w)
 
 module _ (f : Fields) (room : ℕ) (r : Ready room (check f)) where
   pub ready-assignment : f .kind ≡ assignmentKind
-      → (check f ≡ Checked.allowed (assignment (f .id) (entryOf f))) × (length (f .name) ≤ 64) × (length (f .name) + length (f .value) + 8 ≤ room)
+      → (check f ≡ Checked.allowed (assignment (f .id) (givenEntry f))) × (length (f .name) ≤ 64) × (length (f .name) + length (f .value) + 8 ≤ room)
   unfolding layout
   ready-assignment k =
-      let x = assignment (f .id) (entryOf f) in
-      let h = ready-is (f .type) room x (checkAssignment (f .id) (entryOf f)) (assignment-check (f .type) (f .id) (entryOf f)) (rw (kind-assignment f k) at r) in
+      let x = assignment (f .id) (givenEntry f) in
+      let h = ready-is (f .type) room x (checkAssignment (f .id) (givenEntry f)) (assignment-check (f .type) (f .id) (givenEntry f)) (rw (kind-assignment f k) at r) in
       let e : check f ≡ Checked.allowed x = kind-assignment f k ∙ h .0 in
-      let w : WellFormed (entryOf f) = h .1 in
-      (e, w .name-fits, omega (arith, ready-room room x (check f) e r, length-assignment (f .id) (entryOf f)))
+      let w : WellFormed (givenEntry f) = h .1 in
+      (e, w .name-fits, omega (arith, ready-room room x (check f) e r, length-assignment (f .id) (givenEntry f)))
 
   pub ready-update : f .kind ≡ updateKind → (check f ≡ Checked.allowed (update (f .id) (f .number) (f .value))) × (length (f .value) + 5 ≤ room)
   unfolding layout
@@ -128,26 +141,25 @@ module _ (f : Fields) (room : ℕ) (r : Ready room (check f)) where
       let e : check f ≡ Checked.allowed x = kind-update f k ∙ h .0 in
       (e, omega (arith, ready-room room x (check f) e r, length-update (f .id) (f .number) (f .value)))
 
--- ---- the answer and the output, by what the message needs
+-- ---- what is answered and written, by what the message needs
 
 module _ (c : Checked) (out : List ℕ) where
-  pub needs-refused : (fault : Fault) → Refused fault ≡ neededFor c → (E.Refused fault ≡ answerOf c out) × (out ≡ outputOf c out)
+  pub needs-refused : (fault : Fault) → Refused fault ≡ neededFor c → refusal fault out ≡ writeResult c out
   needs-refused fault e = go c e
     where
-      go : (c : Checked) → Refused fault ≡ neededFor c → (E.Refused fault ≡ answerOf c out) × (out ≡ outputOf c out)
-      go (Checked.refused other) q = let same : fault ≡ other = cc in (ap E.Refused same, refl)
+      go : (c : Checked) → Refused fault ≡ neededFor c → refusal fault out ≡ writeResult c out
+      go (Checked.refused other) q = let same : fault ≡ other = cc in rw same
       go (Checked.allowed m) q = let z : _≡_ {A = ℕ} 0 1 = cc in absurd (omega arith)
 
-  pub needs-more : (n : ℕ) → Taken n ≡ neededFor c → length out < n → (E.Refused (faultAt outputTooShort 0) ≡ answerOf c out) × (out ≡ outputOf c out)
+  pub needs-more : (n : ℕ) → Taken n ≡ neededFor c → length out < n → refusal (faultAt outputTooShort 0) out ≡ writeResult c out
   unfolding pick
   needs-more n e h = go c e
     where
-      go : (c : Checked) → Taken n ≡ neededFor c → (E.Refused (faultAt outputTooShort 0) ≡ answerOf c out) × (out ≡ outputOf c out)
+      go : (c : Checked) → Taken n ≡ neededFor c → refusal (faultAt outputTooShort 0) out ≡ writeResult c out
       go (Checked.refused fault) q = let z : _≡_ {A = ℕ} 0 1 = cc in absurd (omega arith)
       go (Checked.allowed m) q =
           let n-is : n ≡ length (layout m) = cc in
-          let short : leb (length (layout m)) (length out) ≡ false = lt-leb (length (layout m)) (length out) (omega arith) in
-          (rw short, rw short)
+          rw (lt-leb (length (layout m)) (length out) (omega arith))
 
   pub needs-room : (n : ℕ) → Taken n ≡ neededFor c → n ≤ length out → Ready (length out) c
   needs-room n e h = go c e
@@ -158,11 +170,9 @@ module _ (c : Checked) (out : List ℕ) where
 
   -- n bytes are sent, and the output afterwards is `after`
   pub ready-sent : Ready (length out) c → (n : ℕ) (after : List ℕ) → n ≡ length (bytesOf c) → after ≡ overwriteAt out 0 (bytesOf c)
-      → (E.Sent n ≡ answerOf c out) × (after ≡ outputOf c out)
+      → written (E.Sent n) after ≡ writeResult c out
   unfolding pick
   ready-sent r n after = go c r
     where
-      go : (c : Checked) → Ready (length out) c → n ≡ length (bytesOf c) → after ≡ overwriteAt out 0 (bytesOf c) → (E.Sent n ≡ answerOf c out) × (after ≡ outputOf c out)
-      go (Checked.allowed m) (ready h) s w =
-          let fits : leb (length (layout m)) (length out) ≡ true = le-leb (length (layout m)) (length out) h in
-          (rw fits (ap E.Sent s), rw fits w)
+      go : (c : Checked) → Ready (length out) c → n ≡ length (bytesOf c) → after ≡ overwriteAt out 0 (bytesOf c) → written (E.Sent n) after ≡ writeResult c out
+      go (Checked.allowed m) (ready h) s w = rw (le-leb (length (layout m)) (length out) h, s, w)

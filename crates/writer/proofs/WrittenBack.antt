@@ -1,105 +1,111 @@
--- "Reading its bytes, any kind and ID allowed, gives that kind's fields back, an update's type being known;
--- equal bytes mean equal fields of that kind, for two updates where their types are equal."
+-- What was written reads back: the message that is allowed says what was given and obeys the rules.
 use mathlib.Core.Path.{_≡_, refl, sym, ap, _∙_}
-use mathlib.Core.List.{List, _++_}
-use mathlib.Core.Bool.{Bool, true, false}
+use mathlib.Core.List.{List}
 use Prim.Native.Nat.{ℕ, _+_, _≤_}
 use native.Mathlib.Omega.{arith}
 use lib.ListN.{length, drop, getD}
-use lib.Dec.{leb}
-use borrow.Author.Tests.{eqb-true, leb-true}
-use Rattle.field.specs.Answer.{outputTooShort}
-use Rattle.field.specs.Field.{faultAt}
+use borrow.Author.Tests.{eqb-true, leb-true, le-leb}
+use Rattle.field.specs.Answer.{done, unknownKind, RefusalNumber}
 use Rattle.field.specs.declared.Fault.{Fault}
-use Rattle.field.specs.Choice.{pick, demand}
+use Rattle.field.specs.Choice.{pick}
 use Rattle.field.specs.Octets.{overwriteAt}
 use Rattle.field.proofs.ChoiceLaws.{by-test}
 use Rattle.field.proofs.OverwriteLaws.{overwrite-eq}
-use Rattle.message.specs.Layout.{Message, keepAlive, hello, unsupported, helloComplete, assignment, update, layout, assignmentBytes, updateBytes, revisionBytes, updateKind, WellFormedMessage}
-use Rattle.message.proofs.ReadBack.{ReadsAs, read-back, same-bytes}
-use Rattle.writer.specs.Writer.{Fields, entryOf, Checked, checkByKind, check, answerOf, outputOf}
-use Rattle.writer.specs.declared.Encoded.the-variants as E
-use Rattle.writer.proofs.WriterLaws.{CheckIs, assignment-check, update-check}
+use Rattle.message.specs.Layout.{Message, layout, assignmentBytes, updateBytes, revisionBytes, WellFormedMessage}
+use Rattle.message.specs.Laws.{ReadsAs}
+use Rattle.message.proofs.ReadBack.{read-back, same-bytes}
+use Rattle.message.proofs.RefusalLaws.{refusal-number}
+use Rattle.writer.specs.Writer.{Fields, givenEntry, Checked, checkByKind, check, WriteResult, writeResult}
+use Rattle.writer.specs.WrittenBack.{Says, says-keep-alive, says-hello, says-unsupported, says-hello-complete, says-assignment, says-update, WrittenSays, WrittenWellFormed, WrittenAllowed, WrittenSent, WrittenBack, SentMessage, SentBack, SameWritten}
+use Rattle.writer.proofs.WriterLaws.{CheckIs, assignment-check, assignment-allowed, update-check, update-allowed, check-keep-alive, check-hello, check-unsupported, check-hello-complete, kind-assignment, kind-update}
 
--- a message begins with its kind
-unfoldable pub kindOf : Message → ℕ
-kindOf x = getD (layout x) 0 0
-
--- what is known of the message that is allowed: it obeys the rules and is of the kind that was given
+-- what is known of a check: a refusal is one of 1 to 14, and a message says what was given and obeys the rules
 data AllowedIs (f : Fields) : Checked → Type 0 where
-  refused : {fault : Fault} → AllowedIs f (Checked.refused fault)
-  allowed : {x : Message} → WellFormedMessage (f .type) x → kindOf x ≡ f .kind → AllowedIs f (Checked.allowed x)
+  refused : {fault : Fault} → RefusalNumber (fault .number) → AllowedIs f (Checked.refused fault)
+  allowed : {x : Message} → Says f x → WellFormedMessage (f .type) x → AllowedIs f (Checked.allowed x)
 
-of-check : (f : Fields) (x : Message) (c : Checked) → kindOf x ≡ f .kind → CheckIs (f .type) x c → AllowedIs f c
-of-check f x (Checked.refused fault) k CheckIs.refused = AllowedIs.refused
-of-check f x (Checked.allowed y) k (CheckIs.allowed w) = AllowedIs.allowed w k
+of-check : (f : Fields) (x : Message) (c : Checked) → Says f x → CheckIs (f .type) x c → AllowedIs f c
+of-check f x (Checked.refused fault) s (CheckIs.refused h) = AllowedIs.refused h
+of-check f x (Checked.allowed y) s (CheckIs.allowed w) = AllowedIs.allowed s w
 
 allowed-is : (f : Fields) → AllowedIs f (check f)
-unfolding checkByKind kindOf layout assignmentBytes updateBytes revisionBytes
+unfolding checkByKind
 allowed-is f =
-    by-test P _ _ _ (λ k. AllowedIs.allowed {x = keepAlive} tt (sym (eqb-true _ _ k))) (λ _.
-    by-test P _ _ _ (λ k. AllowedIs.allowed {x = hello (f .revision)} tt (sym (eqb-true _ _ k))) (λ _.
-    by-test P _ _ _ (λ k. AllowedIs.allowed {x = unsupported (f .revision)} tt (sym (eqb-true _ _ k))) (λ _.
-    by-test P _ _ _ (λ k. AllowedIs.allowed {x = helloComplete} tt (sym (eqb-true _ _ k))) (λ _.
-    by-test P _ _ _ (λ k. of-check f (assignment (f .id) (entryOf f)) _ (sym (eqb-true _ _ k)) (assignment-check (f .type) (f .id) (entryOf f))) (λ _.
-    by-test P _ _ _ (λ k. of-check f (update (f .id) (f .number) (f .value)) _ (sym (eqb-true _ _ k)) (update-check (f .id) (f .number) (f .type) (f .value))) (λ _. AllowedIs.refused))))))
+    by-test P _ _ _ (λ k. AllowedIs.allowed (says-keep-alive (eqb-true _ _ k)) tt) (λ _.
+    by-test P _ _ _ (λ k. AllowedIs.allowed (says-hello (eqb-true _ _ k)) tt) (λ _.
+    by-test P _ _ _ (λ k. AllowedIs.allowed (says-unsupported (eqb-true _ _ k)) tt) (λ _.
+    by-test P _ _ _ (λ k. AllowedIs.allowed (says-hello-complete (eqb-true _ _ k)) tt) (λ _.
+    by-test P _ _ _ (λ k. of-check f _ _ (says-assignment (eqb-true _ _ k)) (assignment-check (f .type) (f .id) (givenEntry f))) (λ _.
+    by-test P _ _ _ (λ k. of-check f _ _ (says-update (eqb-true _ _ k)) (update-check (f .id) (f .number) (f .type) (f .value))) (λ _.
+    AllowedIs.refused (refusal-number unknownKind (omega arith) (omega arith))))))))
   where
     P : Checked → Type 0
     P = AllowedIs f
 
-module _ (f : Fields) (x : Message) (e : check f ≡ Checked.allowed x) where
-  facts : WellFormedMessage (f .type) x × (kindOf x ≡ f .kind)
-  facts = go (rw e at (allowed-is f))
-    where
-      go : AllowedIs f (Checked.allowed x) → WellFormedMessage (f .type) x × (kindOf x ≡ f .kind)
-      go (AllowedIs.allowed w k) = (w, k)
-
-  -- what is written obeys the rules
-  pub written-well-formed : WellFormedMessage (f .type) x
-  written-well-formed = facts .0
-
-  pub written-kind : kindOf x ≡ f .kind
-  written-kind = facts .1
-
-  -- reading it gives the fields back, and takes its bytes
-  pub written-back : (rest : List ℕ) → ReadsAs (f .type) x (layout x ++ rest)
-  written-back rest = read-back (f .type) x rest written-well-formed
-
--- what the call leaves in the output, from its first byte on, reads back
-pub sent-back : (f : Fields) (out : List ℕ) (n : ℕ) → answerOf (check f) out ≡ E.Sent n
-    → (x : Message) × (check f ≡ Checked.allowed x) × (n ≡ length (layout x)) × ReadsAs (f .type) x (outputOf (check f) out)
-unfolding pick
-sent-back f out n e = go (check f) refl e
+facts : (f : Fields) (x : Message) → check f ≡ Checked.allowed x → Says f x × WellFormedMessage (f .type) x
+facts f x e = go (rw e at (allowed-is f))
   where
-    fitted : (x : Message) → check f ≡ Checked.allowed x → (room : Bool) → leb (length (layout x)) (length out) ≡ room
-        → demand room (E.Refused (faultAt outputTooShort 0)) (E.Sent (length (layout x))) ≡ E.Sent n
-        → (y : Message) × (Checked.allowed x ≡ Checked.allowed y) × (n ≡ length (layout y)) × ReadsAs (f .type) y (pick room (overwriteAt out 0 (layout x)) out)
-    fitted x c true h q =
+    go : AllowedIs f (Checked.allowed x) → Says f x × WellFormedMessage (f .type) x
+    go (AllowedIs.allowed s w) = (s, w)
+
+pub written-says : WrittenSays
+written-says f x e = facts f x e .0
+
+pub written-well-formed : WrittenWellFormed
+written-well-formed f x e = facts f x e .1
+
+pub written-allowed : WrittenAllowed
+written-allowed f x (says-keep-alive k) w = check-keep-alive f k
+written-allowed f x (says-hello k) w = check-hello f k
+written-allowed f x (says-unsupported k) w = check-unsupported f k
+written-allowed f x (says-hello-complete k) w = check-hello-complete f k
+written-allowed f x (says-assignment k) w = kind-assignment f k ∙ assignment-allowed (f .id) (givenEntry f) w
+written-allowed f x (says-update k) w = kind-update f k ∙ update-allowed (f .id) (f .number) (f .type) (f .value) w
+
+pub written-sent : WrittenSent
+unfolding pick
+written-sent f x s w out h = rw (written-allowed f x s w, le-leb (length (layout x)) (length out) h)
+
+pub written-back : WrittenBack
+written-back f x e rest = read-back (f .type) x rest (written-well-formed f x e)
+
+record IfDone (f : Fields) (r : WriteResult) : Type 0 where
+  at-done : r .number ≡ done → SentMessage f r
+
+pub sent-back : SentBack
+sent-back f out = go (check f) refl (allowed-is f) .at-done
+  where
+    go : (c : Checked) → check f ≡ c → AllowedIs f c → IfDone f (writeResult c out)
+    go (Checked.refused k) e (AllowedIs.refused h) = record { at-done = λ q. absurd (omega (arith, h .above)) }
+    go (Checked.allowed x) e a =
+        by-test (IfDone f) _ _ _
+        (λ h.
         let l : 0 + length (layout x) ≤ length out = omega (arith, leb-true (length (layout x)) (length out) h) in
-        (x, refl, cc, rw (overwrite-eq out 0 (layout x) l) (written-back f x c (drop (0 + length (layout x)) out)))
-    fitted x c false h q = let z : _≡_ {A = ℕ} 0 1 = cc in absurd (omega arith)
+        let back : ReadsAs (f .type) x (overwriteAt out 0 (layout x)) =
+        rw (overwrite-eq out 0 (layout x) l) (written-back f x e (drop (0 + length (layout x)) out)) in
+        record { at-done = λ _. record { message = x; says-given = written-says f x e; is-sent = refl; reads-back = back } })
+        (λ _. record { at-done = λ q. absurd (omega arith) })
 
-    go : (r : Checked) → check f ≡ r → answerOf r out ≡ E.Sent n → (x : Message) × (r ≡ Checked.allowed x) × (n ≡ length (layout x)) × ReadsAs (f .type) x (outputOf r out)
-    go (Checked.refused k) c q = let z : _≡_ {A = ℕ} 0 1 = cc in absurd (omega arith)
-    go (Checked.allowed x) c q = fitted x c (leb (length (layout x)) (length out)) refl q
+-- a message begins with its kind
+says-kind : (f : Fields) (x : Message) → Says f x → getD (layout x) 0 0 ≡ f .kind
+unfolding layout assignmentBytes updateBytes revisionBytes
+says-kind f x (says-keep-alive k) = sym k
+says-kind f x (says-hello k) = sym k
+says-kind f x (says-unsupported k) = sym k
+says-kind f x (says-hello-complete k) = sym k
+says-kind f x (says-assignment k) = sym k
+says-kind f x (says-update k) = sym k
 
--- only an update's form depends on the type that is given
-any-type : (s t : ℕ) (x : Message) → (kindOf x ≡ updateKind → s ≡ t) → WellFormedMessage s x → WellFormedMessage t x
-unfolding kindOf layout updateBytes
-any-type s t keepAlive h w = w
-any-type s t (hello revision) h w = w
-any-type s t (unsupported revision) h w = w
-any-type s t helloComplete h w = w
-any-type s t (assignment id e) h w = w
-any-type s t (update id number value) h w = rw (h refl) at w
-
-pub same-written : (f g : Fields) (x y : Message) → check f ≡ Checked.allowed x → check g ≡ Checked.allowed y → layout x ≡ layout y
-    → (f .kind ≡ updateKind → g .kind ≡ updateKind → f .type ≡ g .type) → x ≡ y
-unfolding kindOf
+pub same-written : SameWritten
 same-written f g x y a b e types =
-    let k : kindOf x ≡ kindOf y = ap (λ (l : List ℕ). getD l 0 0) e in
-    let w : WellFormedMessage (f .type) y =
-    any-type (g .type) (f .type) y
-    (λ q. sym (types (sym (written-kind f x a) ∙ k ∙ q) (sym (written-kind g y b) ∙ q)))
-    (written-well-formed g y b) in
-    same-bytes (f .type) x y e (written-well-formed f x a) w
+    let k : f .kind ≡ g .kind = sym (says-kind f x (written-says f x a)) ∙ ap (λ (l : List ℕ). getD l 0 0) e ∙ says-kind g y (written-says g y b) in
+    same-bytes (f .type) x y e (written-well-formed f x a) (go k y (written-says g y b) (written-well-formed g y b))
+  where
+    -- only an update's form depends on the type that is given
+    go : f .kind ≡ g .kind → (y : Message) → Says g y → WellFormedMessage (g .type) y → WellFormedMessage (f .type) y
+    go k y (says-keep-alive _) w = w
+    go k y (says-hello _) w = w
+    go k y (says-unsupported _) w = w
+    go k y (says-hello-complete _) w = w
+    go k y (says-assignment _) w = w
+    go k y (says-update q) w = rw (types (k ∙ q) q) w

@@ -33,8 +33,8 @@ lentFields kind revision name type id number value =
     record { kind = kind; revision = revision; name = now name; type = type; id = id; number = number; value = now value }
 
 -- the entry that the fields of an assignment make
-abbrev pub entryOf : Fields → Entry
-entryOf f = record { name = f .name; type = f .type; number = f .number; value = f .value }
+abbrev pub givenEntry : Fields → Entry
+givenEntry f = record { name = f .name; type = f .type; number = f .number; value = f .value }
 
 -- "A local name is lent without a prefix": 10, then 9
 unfoldable pub checkName : List ℕ → Parsed
@@ -66,7 +66,7 @@ checkByKind kind f =
     (pick (eqb kind helloKind) (allowed (hello (f .revision)))
     (pick (eqb kind unsupportedKind) (allowed (unsupported (f .revision)))
     (pick (eqb kind helloCompleteKind) (allowed helloComplete)
-    (pick (eqb kind assignmentKind) (checkAssignment (f .id) (entryOf f))
+    (pick (eqb kind assignmentKind) (checkAssignment (f .id) (givenEntry f))
     (pick (eqb kind updateKind) (checkUpdate (f .id) (f .number) (f .type) (f .value))
     (refused (faultAt unknownKind 0)))))))
 
@@ -86,22 +86,39 @@ bytesOf (allowed m) = layout m
 pub data Ready (room : ℕ) : Checked → Type 0 where
   ready : {m : Message} → length (layout m) ≤ room → Ready room (allowed m)
 
--- what is answered: the bytes sent, or the refusal; 12 "exactly when the output is shorter than what would be sent"
-abbrev pub answerOf : Checked → List ℕ → Encoded
-answerOf (refused fault) out = E.Refused fault
-answerOf (allowed m) out =
-    demand (leb (length (layout m)) (length out)) (E.Refused (faultAt outputTooShort 0)) (E.Sent (length (layout m)))
+-- number, sent and output; the place of a refusal
+pub record WriteResult : Type 0 where
+  pub number : ℕ
+  pub place : ℕ
+  pub sent : ℕ
+  pub output : List ℕ
 
--- the output afterwards: "With 0 the first "sent" bytes of the output are the messages and the rest is unchanged"
-abbrev pub outputOf : Checked → List ℕ → List ℕ
-outputOf (refused fault) out = out
-outputOf (allowed m) out = pick (leb (length (layout m)) (length out)) (overwriteAt out 0 (layout m)) out
+-- "A refusal (1 to 14) reports .. 0 sent .., and changes no lent memory."
+abbrev pub refusal : Fault → List ℕ → WriteResult
+refusal fault out = record { number = fault .number; place = fault .place; sent = 0; output = out }
 
--- the number that the writer answers with, and the bytes that it sent
+-- "With 0 the first "sent" bytes of the output are the messages and the rest is unchanged."
+abbrev pub sending : Message → List ℕ → WriteResult
+sending m out = record { number = done; place = 0; sent = length (layout m); output = overwriteAt out 0 (layout m) }
+
+-- what the checks come to, and "last the output room (12), given exactly when the output is shorter than what would be sent"
+abbrev pub writeResult : Checked → List ℕ → WriteResult
+writeResult (refused fault) out = refusal fault out
+writeResult (allowed m) out = demand (leb (length (layout m)) (length out)) (refusal (faultAt outputTooShort 0) out) (sending m out)
+
+-- the number, the place and the bytes sent that each case of the writer's answer stands for
 abbrev pub numberOf : Encoded → ℕ
 numberOf (E.Refused fault) = fault .number
 numberOf (E.Sent sent) = done
 
+abbrev pub placeOf : Encoded → ℕ
+placeOf (E.Refused fault) = fault .place
+placeOf (E.Sent sent) = 0
+
 abbrev pub sentOf : Encoded → ℕ
 sentOf (E.Refused fault) = 0
 sentOf (E.Sent sent) = sent
+
+-- an answer, with the output as the call leaves it
+abbrev pub written : Encoded → List ℕ → WriteResult
+written e out = record { number = numberOf e; place = placeOf e; sent = sentOf e; output = out }

@@ -23,7 +23,8 @@ ghost use Prim.Native.Nat.{ℕ};
 ghost use lib.ListN.{length};
 ghost use Rattle.field.specs.Octets.{overwriteAt};
 ghost use Rattle.message.specs.Lent.{lentEntry};
-ghost use Rattle.writer.specs.Writer.{lentFields, checkName, checkAssignment, checkUpdate, check, neededFor, bytesOf, Ready, answerOf, outputOf};
+ghost use Rattle.writer.specs.Writer.{lentFields, checkName, checkAssignment, checkUpdate, check};
+ghost use Rattle.writer.specs.Writer.{neededFor, bytesOf, Ready, writeResult, written};
 
 // What the writer answers: a refusal, or how many bytes of the output are the message.
 pub enum Encoded {
@@ -135,12 +136,10 @@ pub fn write_message(
     value: &[u8],
     out: &mut [u8],
 ) -> Encoded
-    ensures answer { λ r.
-        ⌜ r
-        ≡ answerOf (check (lentFields kind revision (name .entry) «type_code» id number (value .entry))) (now (out .entry)) ⌝ }
-    ensures output { λ _.
-        ⌜ now (out .exit)
-        ≡ outputOf (check (lentFields kind revision (name .entry) «type_code» id number (value .entry))) (now (out .entry)) ⌝ }
+    ensures { λ r.
+        ⌜ written r (now (out .exit))
+        ≡ writeResult (check (lentFields kind revision (name .entry) «type_code» id number (value .entry)))
+        (now (out .entry)) ⌝ }
 {
     let needed = check_fields(kind, name, type_code, value);
     let Parsed::Taken(size) = needed else {

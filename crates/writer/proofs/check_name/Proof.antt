@@ -1,3 +1,5 @@
+use native.Mathlib.Omega.{arith}
+use lib.ListN.{length}
 use borrow.Author.Tests.{le-leb, lt-leb}
 use Rattle.field.specs.Choice.{pick}
 use Rattle.writer.specs.Writer.{checkName}
@@ -15,7 +17,7 @@ returns : tie.Need-returns
 unfolding checkName pick
 returns d =
     let c = d .before in
-    rw (d .fault-at .ensures, lt-leb _ _ (c .if1 .taken))
+    rw (d .fault-at .ensures, lt-leb (length (c .before .before .args .name .now)) 64 (omega (arith, c .if1 .taken)))
 
 is-utf8-requires : tie.Need-is-utf8-requires
 is-utf8-requires c κs = search needs

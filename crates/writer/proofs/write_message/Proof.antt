@@ -1,10 +1,9 @@
--- `write_message` answers `answerOf` and leaves `outputOf`: what the fields need is told, and the laws of needing settle the three ways out.
+-- `write_message` answers and leaves what `writeResult` says: what the fields need is told, and the laws of needing settle the three ways out.
 use Prim.Native.Nat.{_≤_, _<_}
 use native.Mathlib.Omega.{arith}
 use mathlib.Core.Path.{_≡_, sym, _∙_}
 use lib.ListN.{length}
 use Rattle.writer.specs.Writer.{Fields, check, neededFor, Ready}
-use Rattle.writer.specs.declared.Encoded.the-variants as E
 use Rattle.writer.proofs.WriterLaws.{needs-refused, needs-more, needs-room, ready-sent}
 use borrow.Author.Needs.{needs}
 use Rattle.writer.proofs.write_message.Statement.{statement}
@@ -50,7 +49,7 @@ returns c =
     let e = c .before .enum-told .given in
     let f = c .before .before .before in
     let h = needs-refused (check (fields f)) (f .before .before .before .before .args .out .now) (e .0 .0) (sym (e .1) ∙ needed-is f) in
-    (rw (c .fault-of .ensures, e .1) (h .0), h .1)
+    rw (c .fault-of .ensures, e .1) h
 
 fault-at-requires : tie.Need-fault-at-requires
 fault-at-requires c κs = search needs

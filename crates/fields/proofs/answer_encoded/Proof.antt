@@ -1,6 +1,6 @@
 use borrow.Author.Needs.{needs}
-use Rattle.flat.proofs.answer_encoded.Statement.{statement}
-use Rattle.flat.proofs.answer_encoded.Tie as tie
+use Rattle.fields.proofs.answer_encoded.Statement.{statement}
+use Rattle.fields.proofs.answer_encoded.Tie as tie
 
 enum-known-e : tie.Need-enum-known-e
 enum-known-e c = search needs

@@ -11,7 +11,6 @@ use Rattle.message.specs.declared.AssignmentRead.the-variants as A
 use Rattle.message.specs.declared.UpdateRead.{UpdateRead}
 use Rattle.message.specs.declared.UpdateRead.the-variants as U
 use Rattle.message.specs.declared.Decoded.{Decoded}
-use Rattle.message.specs.declared.Decoded.the-variants as D
 use Rattle.message.specs.Layout.{longestAssignment}
 use Rattle.message.proofs.TakenLaws.{assignment-fits, update-fits}
 

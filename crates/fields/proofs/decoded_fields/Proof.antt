@@ -4,8 +4,8 @@ use native.Mathlib.Omega.{arith}
 use borrow.Author.Needs.{needs}
 use Rattle.message.specs.Layout.{longestAssignment}
 use Rattle.message.specs.Reader.{assignmentLength, updateLength}
-use Rattle.flat.proofs.decoded_fields.Statement.{statement}
-use Rattle.flat.proofs.decoded_fields.Tie as tie
+use Rattle.fields.proofs.decoded_fields.Statement.{statement}
+use Rattle.fields.proofs.decoded_fields.Tie as tie
 
 -- an assignment's lengths, and an update's
 assignment-small : (c : tie.After-known-told4) → assignmentLength (c .before .d4 .given .0 .0) (c .before .d4 .given .0 .1 .1 .1 .1 .0) ≤ longestAssignment

@@ -1,6 +1,8 @@
+use mathlib.Core.Path.{ap}
+use Rattle.fields.specs.Fields.{encodeResult}
 use borrow.Author.Needs.{needs}
-use Rattle.flat.proofs.encode.Statement.{statement}
-use Rattle.flat.proofs.encode.Tie as tie
+use Rattle.fields.proofs.encode.Statement.{statement}
+use Rattle.fields.proofs.encode.Tie as tie
 
 write-message-requires : tie.Need-write-message-requires
 write-message-requires c κs = search needs
@@ -12,7 +14,7 @@ same-length : tie.Need-same-length
 same-length c = search needs
 
 returns : tie.Need-returns
-returns c = let w = c .before .before .before .write-message .ensures in (rw (← (w .0)) (c .answer-encoded .ensures), w .1)
+returns c = rw (c .answer-encoded .ensures) (ap encodeResult (c .before .before .before .write-message .ensures))
 
 pub encode-spec : {M : Type 1} → statement M
 encode-spec =
