@@ -1,6 +1,6 @@
 -- Laws of the set of recipients.
 use mathlib.Core.Path.{_≡_, refl, sym, ap, _∙_}
-use mathlib.Core.Bool.{Bool, true, false, and-true}
+use mathlib.Core.Bool.{Bool, true, false, and-true, and-false}
 use mathlib.Core.List.{List}
 use Prim.Native.Nat.{ℕ, zero, suc, _+_, _-_, _*_, _/_, _%_, _^_, _≤_, _<_}
 use native.Mathlib.Nat.{not-suc-le-zero, zero-mul, one-mul, add-mul-div-right, add-mul-mod-self-right, div-eq-of-lt, pow-suc, mul-assoc, mul-comm}
@@ -12,7 +12,7 @@ use lib.Pow.{pow-pos, pow-add}
 use lib.ListN.{getD}
 use borrow.Author.Tests.{eq-eqb, ne-eqb}
 use Rattle.field.specs.Choice.{pick}
-use Rattle.answer.specs.Recipients.{Recipients, nobody, sender, allGreeted, otherGreeted, isRecipient, bitSet, testBit, recipientSet}
+use Rattle.answer.specs.Recipients.{nobody, sender, allGreeted, otherGreeted, isRecipient, bitSet, testBit, recipientSet, RecipientBit, GreetedReceives}
 
 -- ---- one bit more
 
@@ -107,10 +107,18 @@ bit-tested n p c h = rw (bit-at n p c h) (bit-test (p c))
 
 -- ---- recipients
 
--- "bit c for connection c": it is set exactly when c is to receive
-pub recipient-bit : (to : Recipients) (marks : List ℕ) (c : ℕ) → c < 16 → testBit (recipientSet to marks) c ≡ isRecipient to marks c
+pub recipient-bit : RecipientBit
 unfolding recipientSet
 recipient-bit to marks c h = bit-tested 16 (isRecipient to marks) c h
+
+pub greeted-receive : GreetedReceives
+greeted-receive marks c h =
+    record {
+      greeted-do = λ g. recipient-bit allGreeted marks c h ∙ rw (eq-eqb _ _ g);
+      others-do = λ d g n. recipient-bit (otherGreeted d) marks c h ∙ rw (eq-eqb _ _ g, ne-eqb _ _ n);
+      no-one-else = λ n. recipient-bit allGreeted marks c h ∙ rw (ne-eqb _ _ n);
+      sender-left-out = recipient-bit (otherGreeted c) marks c h ∙ rw (eq-eqb c c refl) (and-false (eqb (getD marks c 0) 2));
+    }
 
 pub nobody-set : (marks : List ℕ) → recipientSet nobody marks ≡ 0
 unfolding recipientSet

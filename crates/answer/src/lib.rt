@@ -9,7 +9,7 @@ ghost use lib.ListN.{length};
 ghost use lib.Dec.{eqb};
 ghost use Rattle.field.specs.Answer.{done, ignored};
 ghost use Rattle.field.specs.Choice.{pick};
-ghost use Rattle.answer.specs.Recipients.{sender, allGreeted, otherGreeted, recipientSet};
+ghost use Rattle.answer.specs.Recipients.{sender, otherGreeted, recipientSet};
 ghost use Rattle.soundness.specs.Sound.{connections, greeted};
 
 // What a call answers: its number, the set of recipients, bytes taken and bytes sent.
@@ -56,6 +56,9 @@ pub fn done(recipients: u16, taken: usize, sent: usize) -> Answer
 
 // ---- the set of recipients
 
+// The number of no connection: all greeted are those but no one.
+pub const NO_ONE: usize = soundness::CONNECTIONS;
+
 // The weight of a connection that is greeted and not the one left out, and else 0.
 fn weight(mark: u8, c: usize, left_out: usize, power: u32) -> u32
     ensures { λ r. ⌜ r ≡ pick (eqb mark greeted && not (eqb c «left_out»)) power 0 ⌝ }
@@ -83,14 +86,6 @@ pub fn other_greeted(marks: &[u8], left_out: usize) -> u16
         c += 1;
     }
     set as u16
-}
-
-// All greeted connections: no connection has the number 16.
-pub fn all_greeted(marks: &[u8]) -> u16
-    requires { ⌜ connections ≤ length (now marks) ⌝ }
-    ensures { λ r. ⌜ r ≡ recipientSet allGreeted (now (marks .entry)) ⌝ }
-{
-    other_greeted(marks, soundness::CONNECTIONS)
 }
 
 // The sender alone.

@@ -6,15 +6,15 @@ use native.Mathlib.Nat.{not-suc-le-zero, add-zero}
 use native.Mathlib.Decide.{decLt}
 use native.Mathlib.Numerals.{add-one}
 use native.Mathlib.Omega.{arith}
-use lib.ListN.{length, getD, take, drop, length-append}
+use lib.ListN.{length, take, drop, length-append}
 use Rattle.field.specs.Octets.{overwriteAt}
 use Rattle.field.proofs.OverwriteLaws.{overwrite-part}
-use Rattle.message.specs.Layout.{Entry, WellFormed, assignmentBytes, longestAssignment}
+use Rattle.message.specs.Layout.{Entry, assignmentBytes, longestAssignment}
 use Rattle.message.proofs.ReadBack.{length-assignment, longest-assignment}
 use Rattle.table.specs.Table.{nameLengthField, valueLengthField, headField, entryAt, Readable, tabulate}
 use Rattle.table.proofs.TabulateLaws.{length-tabulate}
 use Rattle.table.proofs.SearchLaws.{name-length, value-length, has-name, has-value, readable-less}
-use Rattle.hello.specs.Hello.{helloAnswer}
+use Rattle.hello.specs.Hello.{helloAnswer, HelloLength}
 
 -- ---- the answer as a loop writes it
 
@@ -79,8 +79,7 @@ length-below-mono i (suc n) f h = elim (decLt i n) [
       rw e (omega (arith, length-below-more n f, length-append (assignmentsBelow n f) (assignmentBytes n (f n)))))
 ]
 
--- entries that obey the paper, read with any default: at most 328 bytes each
-pub length-hello : (id : ℕ) (es : List Entry) (d : Entry) → ((i : ℕ) → i < length es → WellFormed (getD es i d)) → length (helloAnswer id es) ≤ longestAssignment * length es + 1
+pub length-hello : HelloLength
 unfolding helloAnswer
 length-hello id [] d h = omega arith
 length-hello id (e ∷ es) d h =

@@ -1,5 +1,6 @@
 // The answer to a hello.
 use message::ASSIGNMENT_FIXED;
+use message::KIND_SIZE;
 use message::LONGEST_ASSIGNMENT;
 ghost use mathlib.Core.Path.{_≡_};
 ghost use Prim.Native.Nat.{_+_, _*_, _≤_, _<_};
@@ -10,7 +11,7 @@ ghost use Rattle.table.specs.Table.{entryAt, lent, entriesOf, Readable};
 ghost use Rattle.hello.specs.Hello.{longestHello, helloAnswer};
 
 // How many bytes the answer to a hello has at most.
-pub const LONGEST_HELLO: usize = LONGEST_ASSIGNMENT * table::MAX_ENTRIES + 1;
+pub const LONGEST_HELLO: usize = LONGEST_ASSIGNMENT * table::MAX_ENTRIES + KIND_SIZE;
 
 // How many bytes the answer to a hello has.
 pub fn hello_length(heads: &[u16], bytes: &[u8], count: u16) -> usize
@@ -18,7 +19,7 @@ pub fn hello_length(heads: &[u16], bytes: &[u8], count: u16) -> usize
     ensures length { λ r. ⌜ r ≡ length (helloAnswer 0 (entriesOf (lent (heads .entry) (bytes .entry) count))) ⌝ }
     ensures bound { λ r. ⌜ r ≤ longestHello count ⌝ }
 {
-    let mut sum: usize = 1;
+    let mut sum = KIND_SIZE;
     let mut i = 0;
     while i < count as usize {
         sum = sum
@@ -64,6 +65,6 @@ pub fn write_hello(heads: &[u16], bytes: &[u8], count: u16, out: &mut [u8]) -> u
         end += n;
         id += 1;
     }
-    out[end] = message::HELLO_COMPLETE;
-    end + 1
+    let last = encoder::write_kind(&mut out[end..], message::HELLO_COMPLETE);
+    end + last
 }

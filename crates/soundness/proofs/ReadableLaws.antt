@@ -10,7 +10,8 @@ use Rattle.value.proofs.ValueLaws.{value-known, known-small}
 use Rattle.table.specs.Table.{TableMemory, typeField, valueLengthField, headField, HasHead, HasName, HasValue, entryAt, Holds, Named, Readable, maxEntries}
 use Rattle.table.proofs.SearchLaws.{has-name, has-value, holds-less}
 use Rattle.soundness.specs.Sound.{soundTable, connections, soundMarks}
-use Rattle.soundness.proofs.SoundLaws.{SoundFacts, sound-facts, marks-facts}
+use Rattle.soundness.specs.Facts.{SoundFacts}
+use Rattle.soundness.proofs.SoundLaws.{sound-facts, marks-facts}
 
 module _ (limit : ℕ) (m : TableMemory) (h : soundTable limit m ≡ true) where
   facts : SoundFacts limit m

@@ -11,16 +11,9 @@ use Rattle.message.specs.Layout.{maxNameLength, WellFormed}
 use Rattle.table.specs.Names.{namesDiffer}
 use Rattle.table.specs.Table.{TableMemory, headSize, entrySize, nameLengthField, valueLengthField, Holds, Named, headField, entryAt, entriesOf}
 use Rattle.soundness.specs.Sound.{allBelow, soundEntry, largeEnough, soundTable, connections, greeted, soundMarks}
+use Rattle.soundness.specs.Facts.{SoundHasFacts, FactsAreSound}
 use Rattle.soundness.proofs.BelowLaws.{all-at, at-all}
 use Rattle.soundness.proofs.EntryLaws.{entry-facts, facts-entry}
-
-pub record SoundFacts (limit : ℕ) (m : TableMemory) : Type 0 where
-  pub holds : Holds limit (m .heads) (m .bytes)
-  pub count-fits : m .count ≤ limit
-  pub names-fit : (i : ℕ) → i < m .count → headField (m .heads) i nameLengthField ≤ maxNameLength
-  pub values-fit : (i : ℕ) → i < m .count → headField (m .heads) i valueLengthField ≤ maxValueSize
-  pub well-formed : (i : ℕ) → i < m .count → WellFormed (entryAt (m .heads) (m .bytes) i)
-  pub differ : namesDiffer (entriesOf m) ≡ true
 
 -- ---- memory that is large enough
 
@@ -45,7 +38,7 @@ entries-named n heads bytes h s = record { holds = h; names-fit = λ i l. entrie
 
 -- ---- the table
 
-pub sound-facts : (limit : ℕ) (m : TableMemory) → soundTable limit m ≡ true → SoundFacts limit m
+pub sound-facts : SoundHasFacts
 unfolding soundTable
 sound-facts limit m h =
     let large = largeEnough limit (m .heads) (m .bytes) in
@@ -64,7 +57,7 @@ sound-facts limit m h =
       differ = last .1;
     }
 
-pub facts-sound : (limit : ℕ) (m : TableMemory) → SoundFacts limit m → soundTable limit m ≡ true
+pub facts-sound : FactsAreSound
 unfolding soundTable
 facts-sound limit m f =
     let each =

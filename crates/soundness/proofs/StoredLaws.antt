@@ -16,7 +16,8 @@ use Rattle.table.proofs.NamesLaws.{differ-last, differ-at, at-differ}
 use Rattle.table.proofs.StoreLaws.{withNumberAndValue, Fit, entries-value, fit-value, entries-new, fit-new}
 use Rattle.table.proofs.TabulateLaws.{length-entries, entry-get}
 use Rattle.soundness.specs.Sound.{largeEnough, soundTable}
-use Rattle.soundness.proofs.SoundLaws.{SoundFacts, sound-facts, facts-sound, large-holds}
+use Rattle.soundness.specs.Facts.{SoundFacts}
+use Rattle.soundness.proofs.SoundLaws.{sound-facts, facts-sound, large-holds}
 
 -- ---- entries as a list
 

@@ -1,5 +1,5 @@
--- A sound table: "a count of 0 to 64, known types, names and values that obey this paper, and names that all differ byte for byte;
--- connection marks are one of the three".
+-- A sound table: "a count of 0 to 64, known types, names and values that obey this paper, and names that all differ byte for byte";
+-- "connection marks are one of the three".
 use Prim.Native.Nat.{ℕ, zero, suc, _*_}
 use mathlib.Core.Bool.{Bool, true, false, _&&_}
 use mathlib.Core.List.{List}
@@ -23,7 +23,7 @@ abbrev pub accepted : Parsed → Bool
 accepted (Refused fault) = false
 accepted (Taken n) = true
 
--- entry i has a name and a value that obey the paper: the value fills its stored length, and so its type is known.
+-- entry i has a name and a value that obey the rules: the value fills its stored length, and so its type is known.
 -- Every 16-bit number is a sequence number.
 unfoldable pub soundEntry : List ℕ → List ℕ → ℕ → Bool
 soundEntry heads bytes i =

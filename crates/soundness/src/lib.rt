@@ -41,7 +41,7 @@ fn is_accepted(p: Parsed) -> bool
     }
 }
 
-// Whether entry i has a name and a value that obey the paper.
+// Whether entry i has a name and a value that obey the rules.
 fn entry_is_sound(heads: &[u16], bytes: &[u8], i: usize) -> bool
     requires { ⌜ Holds (i + 1) (now heads) (now bytes) ⌝ }
     ensures { λ r. ⌜ r ≡ soundEntry (now (heads .entry)) (now (bytes .entry)) i ⌝ }

@@ -1,6 +1,6 @@
 -- What storing does to the entries that a table holds, and what it leaves unchanged.
 use mathlib.Core.Path.{_≡_, ap₂, _∙_}
-use mathlib.Core.Logic.{_≢_}
+use mathlib.Core.Logic.{_≢_, inl, inr}
 use mathlib.Core.List.{List, [], _∷_, _++_}
 use Prim.Native.Nat.{ℕ, _+_, _*_, _≤_, _<_}
 use native.Mathlib.Decide.{ℕ-discrete}
@@ -10,11 +10,12 @@ use native.Mathlib.Omega.{arith}
 use lib.ListN.{length, take, drop, getD, set, length-set, length-take, length-drop}
 use lib.Seq.{drop-at, take-append-seam, length-take-le, getD-take, getD-drop, getD-set-same, getD-set-other, ext-getD}
 use Rattle.field.specs.Octets.{overwriteAt}
-use Rattle.field.proofs.OverwriteLaws.{length-overwrite, overwrite-eq, Outside, overwrite-outside, overwrite-inside}
+use Rattle.field.proofs.OverwriteLaws.{length-overwrite, overwrite-eq, overwrite-outside, overwrite-inside}
 use Rattle.message.specs.Layout.{Entry, maxNameLength}
 use Rattle.value.specs.Value.{maxValueSize}
-use Rattle.table.specs.Table.{entrySize, headSize, nameLengthField, valueLengthField, typeField, numberField, TableMemory, nameStart, valueStart, Holds, headField, part, entryAt}
+use Rattle.table.specs.Table.{entrySize, headSize, nameLengthField, valueLengthField, typeField, numberField, TableMemory, nameStart, valueStart, Holds, headField, part, entryAt, entryOf, withUpdate}
 use Rattle.table.specs.Table.{tabulate, entriesOf, defaultEntry, headsWithEntry, bytesWithEntry, headsWithValue, bytesWithValue, storeEntry, storeValue}
+use Rattle.table.specs.Stored.{Within, SameBut, ValueStored, EntryStored}
 use Rattle.table.proofs.TabulateLaws.{getD-tabulate, tabulate-same, tabulate-set}
 
 -- ---- entries as a list
@@ -22,7 +23,7 @@ use Rattle.table.proofs.TabulateLaws.{getD-tabulate, tabulate-same, tab
 -- entry i with another number and value
 unfoldable pub withNumberAndValue : List Entry → ℕ → ℕ → List ℕ → List Entry
 withNumberAndValue es i number value =
-    set es i (record { name = getD es i defaultEntry .name; type = getD es i defaultEntry .type; number = number; value = value })
+    set es i (withUpdate (getD es i defaultEntry) number value)
 
 -- ---- parts of memory
 
@@ -55,32 +56,29 @@ pub record Fit (limit : ℕ) (m : TableMemory) : Type 0 where
   pub values-fit : (i : ℕ) → i < m .count → headField (m .heads) i valueLengthField ≤ maxValueSize
 
 -- nothing differs but the head and the bytes of entry i
-record SameBut (m m′ : TableMemory) (i : ℕ) : Type 0 where
-  same-heads : length (m′ .heads) ≡ length (m .heads)
-  same-bytes : length (m′ .bytes) ≡ length (m .bytes)
-  head-kept : (k j : ℕ) → k ≢ i → j < headSize → headField (m′ .heads) k j ≡ headField (m .heads) k j
-  byte-kept : (p : ℕ) → Outside (nameStart i) entrySize p → getD (m′ .bytes) p 0 ≡ getD (m .bytes) p 0
-
-abbrev entryOf : TableMemory → ℕ → Entry
-entryOf m i = entryAt (m .heads) (m .bytes) i
+abbrev SameButEntry : (i : ℕ) (m m′ : TableMemory) → Type 0
+SameButEntry i = SameBut (Within (headSize * i) headSize) (Within (nameStart i) entrySize)
 
 entry-path : (a b : Entry) → a .name ≡ b .name → a .type ≡ b .type → a .number ≡ b .number → a .value ≡ b .value → a ≡ b
 entry-path a b p q r s = λ i. record { name = p i; type = q i; number = r i; value = s i }
 
-module _ {limit : ℕ} {m : TableMemory} (f : Fit limit m) (m′ : TableMemory) (i : ℕ) (b : SameBut m m′ i) where
+module _ {limit : ℕ} {m : TableMemory} (f : Fit limit m) (m′ : TableMemory) (i : ℕ) (b : SameButEntry i m m′) where
+  head-kept : (k j : ℕ) → k ≢ i → j < headSize → headField (m′ .heads) k j ≡ headField (m .heads) k j
+  head-kept k j ne h = b .heads-kept (headSize * k + j) (λ w. omega (arith, w .0, w .1))
+
   other-entry : (k : ℕ) → k < m .count → k ≢ i → entryOf m′ k ≡ entryOf m k
   unfolding entryAt
   other-entry k l ne =
       entry-path (entryOf m′ k) (entryOf m k)
-      (rw (b .head-kept k nameLengthField ne (omega arith))
+      (rw (head-kept k nameLengthField ne (omega arith))
       (kept (nameStart k) (headField (m .heads) k nameLengthField) (omega arith) (omega (arith, f .names-fit k l))))
-      (b .head-kept k typeField ne (omega arith))
-      (b .head-kept k numberField ne (omega arith))
-      (rw (b .head-kept k valueLengthField ne (omega arith))
+      (head-kept k typeField ne (omega arith))
+      (head-kept k numberField ne (omega arith))
+      (rw (head-kept k valueLengthField ne (omega arith))
       (kept (valueStart k) (headField (m .heads) k valueLengthField) (omega arith) (omega (arith, f .values-fit k l))))
     where
       kept : (from n : ℕ) → nameStart k ≤ from → from + n ≤ nameStart k + entrySize → part from n (m′ .bytes) ≡ part from n (m .bytes)
-      kept from n low high = same-part (m .bytes) (m′ .bytes) from n (b .same-bytes) (λ p g h. b .byte-kept p (λ j w. omega arith))
+      kept from n low high = same-part (m .bytes) (m′ .bytes) from n (b .same-bytes) (λ p g h. b .bytes-kept p (λ w. omega (arith, w .0, w .1)))
 
   fit-same-but : ((k : ℕ) → k < m′ .count → k ≢ i → k < m .count) → headField (m′ .heads) i nameLengthField ≤ maxNameLength
       → headField (m′ .heads) i valueLengthField ≤ maxValueSize → Fit limit m′
@@ -94,83 +92,73 @@ module _ {limit : ℕ} {m : TableMemory} (f : Fit limit m) (m′ : TableMemory) 
       go : (j most : ℕ) → j < headSize → headField (m′ .heads) i j ≤ most → ((k : ℕ) → k < m .count → headField (m .heads) k j ≤ most)
           → (k : ℕ) → k < m′ .count → Dec (k ≡ i) → headField (m′ .heads) k j ≤ most
       go j most w own all k l (yes e) = rw e own
-      go j most w own all k l (no ne) = rw (b .head-kept k j ne w) (all k (old k l ne))
+      go j most w own all k l (no ne) = rw (head-kept k j ne w) (all k (old k l ne))
 
--- ---- what storing leaves unchanged: "Bytes of unused entries, bytes past a name or value, and memory beyond the table
--- never change except where a stored name or value covers them"
+-- ---- what storing leaves unchanged
 
--- another number and value of entry i
-module _ (m : TableMemory) (i q : ℕ) (v : List ℕ) where
-  pub length-value-heads : length (storeValue m i q v .heads) ≡ length (m .heads)
-  unfolding storeValue headsWithValue
-  length-value-heads = simp length-set
+kept-outside : (xs : List ℕ) (at : ℕ) (ys : List ℕ) (p : ℕ) → ¬ Within at (length ys) p → getD (overwriteAt xs at ys) p 0 ≡ getD xs p 0
+kept-outside xs at ys p h = overwrite-outside xs at ys p (λ k l e. h (omega arith, omega arith))
 
-  pub length-value-bytes : length (storeValue m i q v .bytes) ≡ length (m .bytes)
-  unfolding storeValue bytesWithValue
-  length-value-bytes = length-overwrite (m .bytes) (valueStart i) v
-
-  pub value-heads-kept : (p : ℕ) → p ≢ headSize * i + valueLengthField → p ≢ headSize * i + numberField
-      → getD (storeValue m i q v .heads) p 0 ≡ getD (m .heads) p 0
-  unfolding storeValue headsWithValue
-  value-heads-kept p a b =
-      getD-set-other (set (m .heads) (4 * i + 1) (length v)) (4 * i + 3) p q 0 b
-      ∙ getD-set-other (m .heads) (4 * i + 1) p (length v) 0 a
-
-  pub value-other-head : (k j : ℕ) → k ≢ i → j < headSize → headField (storeValue m i q v .heads) k j ≡ headField (m .heads) k j
-  value-other-head k j ne h = value-heads-kept (headSize * k + j) (omega arith) (omega arith)
-
-  -- the name's length and the type
-  pub value-same-head : (j : ℕ) → j ≢ valueLengthField → j ≢ numberField → headField (storeValue m i q v .heads) i j ≡ headField (m .heads) i j
-  value-same-head j a b = value-heads-kept (headSize * i + j) (omega arith) (omega arith)
-
-  pub value-bytes-kept : (p : ℕ) → Outside (valueStart i) (length v) p → getD (storeValue m i q v .bytes) p 0 ≡ getD (m .bytes) p 0
-  unfolding storeValue bytesWithValue
-  value-bytes-kept = overwrite-outside (m .bytes) (valueStart i) v
+pub value-stored : ValueStored
+unfolding storeValue headsWithValue bytesWithValue
+value-stored m i q v =
+    record {
+      same-heads = simp length-set;
+      same-bytes = length-overwrite (m .bytes) (valueStart i) v;
+      heads-kept = λ p h.
+          getD-set-other (set (m .heads) (4 * i + 1) (length v)) (4 * i + 3) p q 0 (λ e. h (inr e))
+          ∙ getD-set-other (m .heads) (4 * i + 1) p (length v) 0 (λ e. h (inl e));
+      bytes-kept = kept-outside (m .bytes) (valueStart i) v;
+    }
 
 -- the four numbers of an entry's head
 headOf : Entry → List ℕ
 headOf e = length (e .name) ∷ length (e .value) ∷ e .type ∷ e .number ∷ []
 
--- a new entry
-module _ (m : TableMemory) (e : Entry) where
-  new-heads-eq : storeEntry m e .heads ≡ overwriteAt (m .heads) (headSize * m .count) (headOf e)
-  unfolding storeEntry headsWithEntry overwriteAt headOf
-  new-heads-eq = simp (add-zero, add-assoc)
+new-heads-eq : (m : TableMemory) (e : Entry) → storeEntry m e .heads ≡ overwriteAt (m .heads) (headSize * m .count) (headOf e)
+unfolding storeEntry headsWithEntry overwriteAt headOf
+new-heads-eq m e = simp (add-zero, add-assoc)
 
-  pub length-new-heads : length (storeEntry m e .heads) ≡ length (m .heads)
-  unfolding storeEntry headsWithEntry
-  length-new-heads = simp length-set
+new-heads-kept : (m : TableMemory) (e : Entry) (p : ℕ) → ¬ Within (headSize * m .count) headSize p → getD (storeEntry m e .heads) p 0 ≡ getD (m .heads) p 0
+unfolding headOf
+new-heads-kept m e p h = rw (new-heads-eq m e) (kept-outside (m .heads) (headSize * m .count) (headOf e) p h)
 
-  pub length-new-bytes : length (storeEntry m e .bytes) ≡ length (m .bytes)
-  unfolding storeEntry bytesWithEntry
-  length-new-bytes = simp length-overwrite
+pub entry-stored : EntryStored
+unfolding storeEntry headsWithEntry bytesWithEntry
+entry-stored m e =
+    record {
+      same-heads = simp length-set;
+      same-bytes = simp length-overwrite;
+      heads-kept = new-heads-kept m e;
+      bytes-kept = λ p h.
+          kept-outside (overwriteAt (m .bytes) (nameStart (m .count)) (e .name)) (valueStart (m .count)) (e .value) p (λ w. h (inr w))
+          ∙ kept-outside (m .bytes) (nameStart (m .count)) (e .name) p (λ w. h (inl w));
+    }
 
-  pub new-heads-kept : (p : ℕ) → Outside (headSize * m .count) headSize p → getD (storeEntry m e .heads) p 0 ≡ getD (m .heads) p 0
-  unfolding headOf
-  new-heads-kept p h = rw new-heads-eq (overwrite-outside (m .heads) (headSize * m .count) (headOf e) p h)
-
-  pub new-other-head : (k j : ℕ) → k ≢ m .count → j < headSize → headField (storeEntry m e .heads) k j ≡ headField (m .heads) k j
-  new-other-head k j ne h = new-heads-kept (headSize * k + j) (λ n l. omega arith)
-
-  pub new-bytes-kept : (p : ℕ) → Outside (nameStart (m .count)) (length (e .name)) p → Outside (valueStart (m .count)) (length (e .value)) p
-      → getD (storeEntry m e .bytes) p 0 ≡ getD (m .bytes) p 0
-  unfolding storeEntry bytesWithEntry
-  new-bytes-kept p n v =
-      overwrite-outside (overwriteAt (m .bytes) (nameStart (m .count)) (e .name)) (valueStart (m .count)) (e .value) p v
-      ∙ overwrite-outside (m .bytes) (nameStart (m .count)) (e .name) p n
+-- more may differ
+widen : {numbers numbers′ octets octets′ : ℕ → Type 0} {m m′ : TableMemory} → ((p : ℕ) → numbers p → numbers′ p) → ((p : ℕ) → octets p → octets′ p)
+    → SameBut numbers octets m m′ → SameBut numbers′ octets′ m m′
+widen f g b =
+    record {
+      same-heads = b .same-heads;
+      same-bytes = b .same-bytes;
+      heads-kept = λ p h. b .heads-kept p (λ w. h (f p w));
+      bytes-kept = λ p h. b .bytes-kept p (λ w. h (g p w));
+    }
 
 -- ---- the entries that a table holds afterwards
 
 module _ {limit : ℕ} {m : TableMemory} (f : Fit limit m) where
   module _ (i q : ℕ) (v : List ℕ) (li : i < m .count) (lc : m .count ≤ limit) (lv : length v ≤ maxValueSize) where
-    value-same-but : SameBut m (storeValue m i q v) i
+    value-same-but : SameButEntry i m (storeValue m i q v)
     value-same-but =
-        record {
-          same-heads = length-value-heads m i q v;
-          same-bytes = length-value-bytes m i q v;
-          head-kept = value-other-head m i q v;
-          byte-kept = λ p h. value-bytes-kept m i q v p (λ k l. omega (arith, h (maxNameLength + k) (omega arith)));
-        }
+        widen (λ p w. elim w [ inl e ↦ (omega arith, omega arith) | inr e ↦ (omega arith, omega arith) ])
+        (λ p w. (omega (arith, w .0), omega (arith, w .1))) (value-stored m i q v)
+
+    -- the name's length and the type
+    value-same-head : (j : ℕ) → j ≢ valueLengthField → j ≢ numberField → headField (storeValue m i q v .heads) i j ≡ headField (m .heads) i j
+    value-same-head j a b =
+        value-stored m i q v .heads-kept (headSize * i + j) (λ w. elim w [ inl e ↦ a (omega arith) | inr e ↦ b (omega arith) ])
 
     value-length : headField (storeValue m i q v .heads) i valueLengthField ≡ length v
     unfolding storeValue headsWithValue
@@ -190,12 +178,12 @@ module _ {limit : ℕ} {m : TableMemory} (f : Fit limit m) where
     unfolding storeValue bytesWithValue
     value-part = part-stored (m .bytes) (valueStart i) v (omega arith)
 
-    value-entry : entryOf (storeValue m i q v) i ≡ record { name = entryOf m i .name; type = entryOf m i .type; number = q; value = v }
+    value-entry : entryOf (storeValue m i q v) i ≡ withUpdate (entryOf m i) q v
     unfolding entryAt
     value-entry =
-        entry-path (entryOf (storeValue m i q v) i) (record { name = entryOf m i .name; type = entryOf m i .type; number = q; value = v })
-        (rw (value-same-head m i q v nameLengthField (omega arith) (omega arith)) value-name)
-        (value-same-head m i q v typeField (omega arith) (omega arith))
+        entry-path (entryOf (storeValue m i q v) i) (withUpdate (entryOf m i) q v)
+        (rw (value-same-head nameLengthField (omega arith) (omega arith)) value-name)
+        (value-same-head typeField (omega arith) (omega arith))
         value-number
         (rw value-length value-part)
 
@@ -209,18 +197,16 @@ module _ {limit : ℕ} {m : TableMemory} (f : Fit limit m) where
     unfolding storeValue
     fit-value =
         fit-same-but f (storeValue m i q v) i value-same-but (λ k l ne. l)
-        (rw (value-same-head m i q v nameLengthField (omega arith) (omega arith)) (f .names-fit i li))
+        (rw (value-same-head nameLengthField (omega arith) (omega arith)) (f .names-fit i li))
         (rw value-length lv)
 
   module _ (e : Entry) (lc : m .count < limit) (ln : length (e .name) ≤ maxNameLength) (lv : length (e .value) ≤ maxValueSize) where
-    new-same-but : SameBut m (storeEntry m e) (m .count)
+    new-same-but : SameButEntry (m .count) m (storeEntry m e)
     new-same-but =
-        record {
-          same-heads = length-new-heads m e;
-          same-bytes = length-new-bytes m e;
-          head-kept = new-other-head m e;
-          byte-kept = λ p h. new-bytes-kept m e p (λ k l. h k (omega arith)) (λ k l. omega (arith, h (maxNameLength + k) (omega arith)));
-        }
+        widen (λ p w. w) (λ p w. elim w [
+          | inl n ↦ (omega (arith, n .0), omega (arith, n .1))
+          | inr v ↦ (omega (arith, v .0), omega (arith, v .1))
+        ]) (entry-stored m e)
 
     new-head : (j : ℕ) → j < headSize → headField (storeEntry m e .heads) (m .count) j ≡ getD (headOf e) j 0
     unfolding headOf

@@ -85,6 +85,10 @@ entryAt heads bytes i =
       value = part (valueStart i) (headField heads i valueLengthField) bytes;
     }
 
+-- entry i of a table
+abbrev pub entryOf : TableMemory → ℕ → Entry
+entryOf m i = entryAt (m .heads) (m .bytes) i
+
 -- the first n entries have names that are within memory, as inner functions require it
 pub record Named (n : ℕ) (heads bytes : List ℕ) : Type 0 where
   pub holds : Holds n heads bytes
@@ -116,6 +120,10 @@ abbrev pub parseHeldUpdate : List Entry → List ℕ → UpdateRead
 parseHeldUpdate es = parseUpdate (λ id. ltb id (length es)) (λ id. getD es id defaultEntry .type)
 
 -- ---- storing
+
+-- an entry with another number and value: its name and type stay
+abbrev pub withUpdate : Entry → (number : ℕ) (value : List ℕ) → Entry
+withUpdate e number value = record { name = e .name; type = e .type; number = number; value = value }
 
 -- the heads with another field j of head i
 abbrev pub withField : List ℕ → ℕ → ℕ → ℕ → List ℕ

@@ -18,9 +18,10 @@ ghost use Rattle.value.specs.Value.{maxValueSize};
 
 pub const MAX_ENTRIES: usize = 64;
 
-pub const NAME_SIZE: usize = 64;
+// The places of a name and of a value.
+pub const NAME_SIZE: usize = message::MAX_NAME_LENGTH as usize;
 
-pub const VALUE_SIZE: usize = 256;
+pub const VALUE_SIZE: usize = value::MAX_VALUE_SIZE as usize;
 
 // An entry's bytes: its name's, and then its value's.
 pub const ENTRY_SIZE: usize = NAME_SIZE + VALUE_SIZE;
@@ -132,14 +133,14 @@ pub fn read_held_update(heads: &[u16], bytes: &[u8], count: u16, m: &[u8]) -> Up
     ensures { λ r.
         ⌜ r ≡ parseHeldUpdate (entriesOf (lent (heads .entry) (bytes .entry) count)) (now (m .entry)) ⌝ }
 {
-    let Number::There(id) = reader::behind_kind(m) else {
+    let Number::There(id) = reader::number_at(m, message::KIND_SIZE) else {
         return UpdateRead::Refused(field::fault_at(INCOMPLETE, message::KIND_SIZE));
     };
     if id >= count {
         return UpdateRead::Refused(field::fault_at(UNKNOWN_ID, message::KIND_SIZE));
     }
     let type_code = type_of(heads, id as usize);
-    message::read_update(m, type_code as u8)
+    message::read_behind_update_id(m, id, type_code as u8)
 }
 
 // ---- storing

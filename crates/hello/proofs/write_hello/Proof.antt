@@ -1,12 +1,12 @@
 -- `write_hello` meets its contract: the assignments passed are stored, and what is left has room for the others and 0x03.
 use mathlib.Core.Path.{_≡_, refl, ap, _∙_}
-use mathlib.Core.List.{List, [], _∷_}
+use mathlib.Core.List.{List, [], _∷_, _++_}
 use Prim.Native.Nat.{ℕ, _+_, _-_, _≤_}
 use native.Mathlib.Omega.{arith}
-use lib.ListN.{length, set, length-take, length-drop, length-set}
+use lib.ListN.{length, take, drop, length-take, length-drop}
 use Rattle.field.specs.Octets.{overwriteAt}
 use Rattle.field.proofs.OverwriteLaws.{Stored, stored, store-next, length-overwrite}
-use Rattle.message.specs.Layout.{assignmentBytes}
+use Rattle.message.specs.Layout.{assignmentBytes, helloCompleteKind}
 use Rattle.table.specs.Table.{entryAt, entriesOf}
 use Rattle.table.proofs.SearchLaws.{readable-less}
 use Rattle.hello.proofs.HelloLaws.{assignmentsBelow, below-more, hello-below, length-below-more, length-hello-below, length-below-mono, overwrite-rest}
@@ -55,6 +55,16 @@ room c =
     let f = entryAt (s .args .heads .now) (s .args .bytes .now) in
     omega (arith, done c .reached, s .pre .1, length-hello-below (s .args .count) f)
 
+-- where it is stored, seen in the whole output
+complete : (c : tie.After-slice-known3 Inv-loop μ-loop)
+    → let l = c .before .before .before .before .before .loop in
+    take (l .end) (l .out) ++ (c .before .before .write-kind .last .0 ++ drop (length (l .out) - l .end) (drop (l .end) (l .out)))
+    ≡ overwriteAt (l .out) (l .end) (helloCompleteKind ∷ [])
+complete c =
+    let e = c .before .before .before .before in
+    let w = c .before .before .write-kind in
+    overwrite-rest (e .before .loop .out) (w .last .0) (helloCompleteKind ∷ []) (e .before .loop .end) (omega (arith, room e)) (w .ensures .1)
+
 loop-holds : tie.Need-loop-holds Inv-loop μ-loop
 unfolding overwriteAt assignmentsBelow
 loop-holds c =
@@ -96,23 +106,34 @@ loop-again c =
       rw (below-more (I t) (entryAt (H t) (Y t))) (store-next _ (message t) _ (l .inv .2) whole (omega (arith, d .ensures .0))),
     )
 
-slice-write-out : tie.Need-slice-write-out Inv-loop μ-loop
-slice-write-out c = omega (arith, room c)
+sub-write-kind : tie.Need-sub-write-kind Inv-loop μ-loop
+sub-write-kind c = omega (arith, room c)
+
+part-write-kind-start : tie.Need-part-write-kind-start Inv-loop μ-loop
+part-write-kind-start c = omega (arith, room c)
+
+part-write-kind-end : tie.Need-part-write-kind-end Inv-loop μ-loop
+part-write-kind-end c = omega (arith, room c)
+
+write-kind-requires : tie.Need-write-kind-requires Inv-loop μ-loop
+write-kind-requires c κs = simp (length-take, length-drop) (omega (arith, room (c .before)))
 
 add-result : tie.Need-add-result Inv-loop μ-loop
-add-result c = omega (arith, room c)
+add-result c = omega (arith, room (c .before .before .before .before))
 
 same-length : tie.Need-same-length Inv-loop μ-loop
-same-length c = simp length-set (c .before .loop .inv .1)
+same-length c =
+    let l = c .before .before .before .before .before .loop in
+    ap length (complete c) ∙ length-overwrite (l .out) (l .end) (helloCompleteKind ∷ []) ∙ l .inv .1
 
 returns : tie.Need-returns Inv-loop μ-loop
-unfolding overwriteAt entriesOf
+unfolding entriesOf
 returns c =
-    let a = c .before .before .before .before .before .args in
-    let f = entryAt (a .heads .now) (a .bytes .now) in
-    let l = c .before .loop in
-    let all = store-next (set (l .out) (l .end) 3) (3 ∷ []) (l .end + 1) (done c) refl refl in
-    rw (hello-below (a .count) f) (all .reached, all .so-far)
+    let e = c .before .before .before .before in
+    let a = e .before .before .before .before .before .args in
+    let w = c .before .before .write-kind in
+    let all = store-next _ (helloCompleteKind ∷ []) (e .before .loop .end + w .result) (done e) (complete c) (omega (arith, w .ensures .0)) in
+    rw (hello-below (a .count) (entryAt (a .heads .now) (a .bytes .now))) (omega (arith, all .reached), all .so-far)
 
 pub write-hello-spec : {M : Type 1} → statement M
 write-hello-spec =
@@ -129,7 +150,10 @@ write-hello-spec =
     add-id
     loop-less
     loop-again
-    slice-write-out
+    sub-write-kind
+    part-write-kind-start
+    part-write-kind-end
+    write-kind-requires
     add-result
     same-length
     returns)

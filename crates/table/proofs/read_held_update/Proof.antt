@@ -28,7 +28,7 @@ entries s = entriesOf (memory s)
 
 id-there : (c : tie.After-id) → (3 ≤ length (to-start c .args .m .now)) × (c .id .given .0 .0 ≡ decode16 (drop 1 (to-start c .args .m .now)))
 unfolding to-start
-id-there c = number-there (to-start c .args .m .now) 1 (c .id .given .0 .0) (sym (c .id .given .1) ∙ c .before .before .behind-kind .ensures)
+id-there c = number-there (to-start c .args .m .now) 1 (c .id .given .0 .0) (sym (c .id .given .1) ∙ c .before .before .number-at .ensures)
 
 held : (s : tie.Start) (id : ℕ) → id < s .args .count → ltb id (length (entries s)) ≡ true
 held s id h = lt-ltb id (length (entries s)) (omega (arith, length-entries (memory s)))
@@ -36,8 +36,8 @@ held s id h = lt-ltb id (length (entries s)) (omega (arith, length-entries (memo
 not-held : (s : tie.Start) (id : ℕ) → s .args .count ≤ id → ltb id (length (entries s)) ≡ false
 not-held s id h = le-ltb id (length (entries s)) (omega (arith, length-entries (memory s)))
 
-behind-kind-requires : tie.Need-behind-kind-requires
-behind-kind-requires c κs = search needs
+number-at-requires : tie.Need-number-at-requires
+number-at-requires c κs = search needs
 
 enum-known-id : tie.Need-enum-known-id
 enum-known-id c = search needs
@@ -53,7 +53,7 @@ returns c =
     let e = c .before in
     let s = e .before .before .before .before .before .before in
     rw (c .fault-at .ensures)
-    (sym (update-short (λ id. ltb id (length (entries s))) (λ id. getD (entries s) id defaultEntry .type) (s .args .m .now) (number-missing (s .args .m .now) 1 (sym (e .enum-told .given .1) ∙ e .before .before .behind-kind .ensures))))
+    (sym (update-short (λ id. ltb id (length (entries s))) (λ id. getD (entries s) id defaultEntry .type) (s .args .m .now) (number-missing (s .args .m .now) 1 (sym (e .enum-told .given .1) ∙ e .before .before .number-at .ensures))))
 
 fault-at-requires-2 : tie.Need-fault-at-requires-2
 fault-at-requires-2 c κs = search needs
@@ -73,15 +73,15 @@ cast-type-of c = search needs
 type-of-requires : tie.Need-type-of-requires
 type-of-requires c κs = search needs
 
-cast-read-update : tie.Need-cast-read-update
+cast-read-behind-update-id : tie.Need-cast-read-behind-update-id
 unfolding to-start entryAt
-cast-read-update c =
+cast-read-behind-update-id c =
     let i = c .before .before .before in
     let s = to-start i in
     omega (arith, s .pre .types-fit (i .id .given .0 .0) (c .before .if1 .left), c .type-of .ensures (s .args .bytes .now))
 
-read-update-requires : tie.Need-read-update-requires
-read-update-requires c κs = search needs
+read-behind-update-id-requires : tie.Need-read-behind-update-id-requires
+read-behind-update-id-requires c κs = search needs
 
 returns-3 : tie.Need-returns-3
 unfolding to-start
@@ -89,14 +89,14 @@ returns-3 c =
     let i = c .before .before .before .before in
     let s = to-start i in
     let h = id-there i in
-    c .read-update .ensures
+    c .read-behind-update-id .ensures
     ∙ sym (update-held (λ id. ltb id (length (entries s))) (λ id. getD (entries s) id defaultEntry .type) (s .args .m .now) (i .id .given .0 .0) _ (h .0) (h .1) (held s (i .id .given .0 .0) (c .before .before .if1 .left)) (c .before .type-of .ensures (s .args .bytes .now) ∙ sym (type-get (memory s) (i .id .given .0 .0) defaultEntry (c .before .before .if1 .left))))
 
 pub read-held-update-spec : {M : Type 1} → statement M
 read-held-update-spec =
     tie.close
     (tie.spec
-    behind-kind-requires
+    number-at-requires
     enum-known-id
     enum-told
     fault-at-requires
@@ -105,6 +105,6 @@ read-held-update-spec =
     returns-2
     cast-type-of
     type-of-requires
-    cast-read-update
-    read-update-requires
+    cast-read-behind-update-id
+    read-behind-update-id-requires
     returns-3)
