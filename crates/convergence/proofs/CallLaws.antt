@@ -26,7 +26,8 @@ use Rattle.answer.proofs.RecipientLaws.{recipient-bit}
 use Rattle.table.proofs.TabulateLaws.{length-entries}
 use Rattle.soundness.proofs.StoredLaws.{stored-new, stored-value}
 use Rattle.protocol.proofs.JudgeLaws.{SentTo, local-write, client-update, VerdictIs, verdict-is}
-use Rattle.protocol.proofs.SoundnessLaws.{SoundMemory, step-is}
+use Rattle.protocol.specs.Kept.{SoundMemory}
+use Rattle.protocol.proofs.SoundnessLaws.{step-is}
 use Rattle.convergence.proofs.Leads.{Leads, leads-none, leads-assignment, leads-update}
 
 -- ---- the bytes that are addressed to a client

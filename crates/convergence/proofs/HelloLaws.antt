@@ -21,7 +21,8 @@ use Rattle.protocol.specs.Judge.{clientMessage, Verdict, refuse, refuseCall, ac
 use Rattle.protocol.specs.Step.{ServerMemory, CallResult, withMark, execute, callStep}
 use Rattle.protocol.specs.Run.{addressedByCall, helloCall}
 use Rattle.soundness.proofs.StoredLaws.{entries-well-formed, entries-differ, entries-fit}
-use Rattle.protocol.proofs.SoundnessLaws.{SoundMemory, step-is}
+use Rattle.protocol.specs.Kept.{SoundMemory}
+use Rattle.protocol.proofs.SoundnessLaws.{step-is}
 use Rattle.convergence.proofs.Leads.{Leads, leads-hello}
 use Rattle.convergence.proofs.CallLaws.{addressed-done}
 

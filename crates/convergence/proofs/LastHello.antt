@@ -9,7 +9,9 @@ use Rattle.table.specs.Table.{entriesOf}
 use Rattle.protocol.specs.Judge.{Verdict, refuse, acceptHello}
 use Rattle.protocol.specs.Step.{ServerMemory, LentCall, CallResult, execute, callStep, freshStart}
 use Rattle.protocol.specs.Run.{memoryAfterRun, afterStartAndCalls, helloCall, StaysWithoutOwnUpdate}
-use Rattle.protocol.proofs.SoundnessLaws.{SoundMemory, sound-kept, start-sound}
+use Rattle.protocol.specs.Kept.{SoundMemory}
+use Rattle.protocol.proofs.SoundnessLaws.{sound-kept, start-sound}
+use Rattle.convergence.specs.Beside.{LastHelloCounts}
 use Rattle.convergence.proofs.RunLaws.{sound-run, run-follows}
 use Rattle.convergence.proofs.HelloLaws.{HelloIs, hello-is, hello-accepted}
 
@@ -43,12 +45,7 @@ unfolding StaysWithoutOwnUpdate
 stays-front limit mem c [] ls q = tt
 stays-front limit mem c (k ∷ ks) ls q = (q .0, stays-front limit (callStep limit mem k .memory) c ks ls (q .1))
 
--- under demand 3's hypotheses, a later hello of the client, between some calls and others, is not accepted
-pub last-hello-counts : (limit : ℕ) (mem : ServerMemory) → freshStart limit mem .number ≡ 0 → (before : List LentCall) (c : ℕ) → c < 16 → (rest out : List ℕ)
-    → callStep limit (afterStartAndCalls limit mem before) (helloCall c rest out) .number ≡ 0
-    → (some : List LentCall) (rest′ out′ : List ℕ) (others : List LentCall)
-    → StaysWithoutOwnUpdate limit (callStep limit (afterStartAndCalls limit mem before) (helloCall c rest out) .memory) c (some ++ (helloCall c rest′ out′ ∷ others))
-    → callStep limit (memoryAfterRun limit (callStep limit (afterStartAndCalls limit mem before) (helloCall c rest out) .memory) some) (helloCall c rest′ out′) .number ≡ 0 → ⊥
+pub last-hello-counts : LastHelloCounts
 last-hello-counts limit mem started before c b rest out e some rest′ out′ others q =
     let now = afterStartAndCalls limit mem before in
     let s : SoundMemory limit now = sound-run limit (freshStart limit mem .memory) before (start-sound limit mem started) in

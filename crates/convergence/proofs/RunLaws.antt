@@ -6,7 +6,8 @@ use lib.ListN.{getD}
 use Rattle.table.specs.Table.{entriesOf}
 use Rattle.protocol.specs.Step.{ServerMemory, LentCall, callStep}
 use Rattle.protocol.specs.Run.{memoryAfterRun, addressedBytes, StaysWithoutOwnUpdate}
-use Rattle.protocol.proofs.SoundnessLaws.{SoundMemory, sound-kept}
+use Rattle.protocol.specs.Kept.{SoundMemory}
+use Rattle.protocol.proofs.SoundnessLaws.{sound-kept}
 use Rattle.convergence.proofs.Leads.{Leads, leads-none, leads-join}
 use Rattle.convergence.proofs.CallLaws.{call-follows}
 

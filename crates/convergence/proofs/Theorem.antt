@@ -14,7 +14,8 @@ use Rattle.protocol.specs.Run.{memoryAfterRun, afterStartAndCalls, addressedByt
 use Rattle.convergence.specs.Demand.{SameEntries, CopyHoldsServerEntries, Demand3}
 use Rattle.table.proofs.TabulateLaws.{length-entries, entry-get}
 use Rattle.protocol.proofs.CopyLaws.{copy-start-sound}
-use Rattle.protocol.proofs.SoundnessLaws.{SoundMemory, sound-kept, start-sound}
+use Rattle.protocol.specs.Kept.{SoundMemory}
+use Rattle.protocol.proofs.SoundnessLaws.{sound-kept, start-sound}
 use Rattle.convergence.proofs.Leads.{leads-join, leads-end}
 use Rattle.convergence.proofs.RunLaws.{sound-run, run-append, run-follows}
 use Rattle.convergence.proofs.HelloLaws.{hello-accepted}

@@ -1,25 +1,24 @@
 -- "Numbers a call answers with": what every call's answer is, whatever lent memory holds.
 use mathlib.Core.Path.{_≡_, refl}
-use mathlib.Core.Logic.{_≢_, _⊎_, inl, inr}
+use mathlib.Core.Logic.{_⊎_, inl, inr}
 use mathlib.Core.Bool.{Bool}
 use mathlib.Core.List.{List}
 use Prim.Native.Nat.{ℕ}
 use native.Mathlib.Omega.{arith}
+use Rattle.field.specs.Answer.{RefusalNumber}
 use Rattle.field.specs.Choice.{pick}
 use Rattle.field.proofs.ChoiceLaws.{by-test}
 use Rattle.message.specs.Layout.{Entry}
 use Rattle.table.specs.Table.{entriesOf}
 use Rattle.protocol.specs.Judge.{Call, Verdict, refuse, ignore, readDone, openMark, closeMark, acceptHello, unsupportedRevision, storeNew, storeUpdate}
-use Rattle.protocol.specs.Step.{ServerMemory, LentCall, CallResult, refusal, execute, callStep}
-use Rattle.message.proofs.RefusalLaws.{RefusalNumber, refusal-number}
+use Rattle.protocol.specs.Step.{ServerMemory, CallResult, refusal, execute, callStep}
+use Rattle.protocol.specs.Answered.{RightlyAnswered, CallAnswered}
+use Rattle.message.proofs.RefusalLaws.{refusal-number}
 use Rattle.protocol.proofs.JudgeLaws.{VerdictIs, verdict-is}
 
--- "A refusal (1 to 14) reports 0 bytes taken, 0 sent and no recipients, and changes no lent memory";
--- "ignored: the message is taken, nothing changes, no output, no recipients"
-pub record RightlyAnswered (mem : ServerMemory) (out : List ℕ) (r : CallResult) : Type 0 where
-  pub numbers : (r .number ≡ 0) ⊎ ((r .number ≡ 16) ⊎ RefusalNumber (r .number))
-  pub refusal-takes-nothing : RefusalNumber (r .number) → r .taken ≡ 0
-  pub unchanged : r .number ≢ 0 → (r .memory ≡ mem) × (r .output ≡ out) × (r .sent ≡ 0) × (r .recipients ≡ 0)
+pub not-refused : (number : ℕ) → RefusalNumber number → (number ≡ 0) ⊎ (number ≡ 16) → ⊥
+not-refused number n (inl e) = omega arith
+not-refused number n (inr e) = omega arith
 
 module _ (mem : ServerMemory) (out : List ℕ) where
   refused-rightly : (number : ℕ) → RefusalNumber number → RightlyAnswered mem out (refusal mem out number)
@@ -49,7 +48,7 @@ module _ (mem : ServerMemory) (out : List ℕ) where
   executed-rightly limit es marks call (storeNew e taken) f = answered _ _ _ done-rightly no-room
   executed-rightly limit es marks call (storeUpdate id number value taken to) f = answered _ _ _ done-rightly no-room
 
-pub call-answered : (limit : ℕ) (mem : ServerMemory) (k : LentCall) → RightlyAnswered mem (k .output) (callStep limit mem k)
+pub call-answered : CallAnswered
 unfolding callStep
 call-answered limit mem k =
     by-test (RightlyAnswered mem (k .output)) _ _ _

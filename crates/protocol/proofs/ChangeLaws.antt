@@ -1,126 +1,155 @@
--- "A held entry changes by a client's hand only through an update whose number is strictly greater than the stored one."
+-- Demand 2: a client's message changes a held entry only by an update with a strictly greater number; what is not greater is ignored.
 use mathlib.Core.Path.{_≡_, refl, sym, ap, _∙_}
-use mathlib.Core.Bool.{true, and-eq-true-iff}
+use mathlib.Core.Logic.{_≢_}
+use mathlib.Core.Bool.{true, false}
 use mathlib.Core.List.{List, [], _∷_, _++_}
-use Prim.Native.Nat.{ℕ, _+_, _<_}
+use Prim.Native.Nat.{ℕ, _<_}
 use native.Mathlib.Decide.{ℕ-discrete}
 use native.Mathlib.Omega.{arith}
 use lib.ListN.{length, getD, set, List·getD-append}
-use lib.Seq.{getD-set-same, getD-set-other}
-use Rattle.field.specs.declared.Fault.{Fault}
+use lib.Seq.{getD-at, getD-set-same, getD-set-other}
+use Rattle.field.specs.Choice.{pick}
 use Rattle.field.proofs.ChoiceLaws.{by-test}
 use Rattle.sequence.specs.SequenceNumber.{passedBy}
-use Rattle.message.specs.Layout.{Entry}
-use Rattle.message.specs.declared.AssignmentRead.{AssignmentRead}
-use Rattle.message.specs.declared.AssignmentRead.the-variants as A
-use Rattle.message.specs.declared.UpdateRead.{UpdateRead}
-use Rattle.message.specs.declared.UpdateRead.the-variants as U
-use Rattle.table.specs.Table.{TableMemory, defaultEntry, entryAt, entriesOf, storeEntry, storeValue}
+use borrow.Author.Tests.{lt-ltb}
+use Rattle.value.specs.Value.{IsValue}
+use Rattle.value.proofs.ValueLaws.{lone-taken}
+use Rattle.protocol.proofs.SoundnessLaws.{step-is}
+use Rattle.message.specs.Layout.{Entry, Message, keepAlive, assignment, update, layout, WellFormed}
+use Rattle.message.specs.Reader.{BeginsWith}
+use Rattle.table.specs.Names.{nameHeld}
+use Rattle.table.specs.Table.{TableMemory, defaultEntry, entriesOf, storeEntry, storeValue, entryOf, withUpdate}
 use Rattle.table.proofs.TabulateLaws.{length-entries, entry-get}
 use Rattle.table.proofs.StoreLaws.{withNumberAndValue}
 use Rattle.soundness.proofs.StoredLaws.{stored-new, stored-value}
-use Rattle.soundness.specs.Sound.{soundTable, soundMarks}
-use Rattle.protocol.specs.Judge.{Call, clientMessage, Verdict, refuse, ignore, acceptHello, unsupportedRevision, storeNew, storeUpdate, judgeHello, judgeAssignment, judgeUpdate, judgeKind, judgeMessage, judge}
-use Rattle.protocol.specs.Step.{ServerMemory, CallResult, callStep, execute}
-use Rattle.protocol.proofs.JudgeLaws.{VerdictIs, verdict-is}
+use Rattle.protocol.specs.Judge.{localWrite, Verdict, refuse, ignore, acceptHello, unsupportedRevision, storeNew, storeUpdate, newId, newEntry, judgeWrite, judge}
+use Rattle.protocol.specs.Step.{ServerMemory, CallResult, execute}
+use Rattle.protocol.specs.Kept.{SoundMemory}
+use Rattle.protocol.specs.Change.{Applied, EntryAfter, applied, CountAfter, one-more, ClientChange, ClientChanges, NotGreaterIgnored, HeldNameIgnored, KeepAliveIgnored, EqualValueIgnored}
+use Rattle.protocol.proofs.MessageLaws.{comesTo, Comes, connected, client-step, ClientCall, client-call}
 
--- ---- what a client's message may come to
+-- ---- entries after a store
 
-data ByClient (es : List Entry) : Verdict → Type 0 where
-  refused : {fault : Fault} → ByClient es (refuse fault)
-  ignored : {taken : ℕ} → ByClient es (ignore taken)
-  accepted : {c : ℕ} → ByClient es (acceptHello c)
-  unsupported : {c : ℕ} → ByClient es (unsupportedRevision c)
-  created : {e : Entry} {taken : ℕ} → ByClient es (storeNew e taken)
-  updated : {id number taken : ℕ} {value : List ℕ} {to : _} → passedBy (getD es id defaultEntry .number) number ≡ true → ByClient es (storeUpdate id number value taken to)
+-- an entry, read off the entries that memory holds
+pub held : (m : TableMemory) (i : ℕ) → i < m .count → entryOf m i ≡ getD (entriesOf m) i defaultEntry
+held m i l = sym (entry-get m i defaultEntry l)
 
-module _ (limit : ℕ) (es : List Entry) where
-  assignment-by : (m : List ℕ) (r : AssignmentRead) → ByClient es (judgeAssignment limit es m r)
-  unfolding judgeAssignment
-  assignment-by m (A.Refused fault) = refused
-  assignment-by m (A.Assignment n t id q v) =
-      by-test (ByClient es) _ _ _ (λ _. ignored) (λ _. by-test (ByClient es) _ _ _ (λ _. created) (λ _. refused))
+module _ (before : TableMemory) where
+  new-other : (e : Entry) → entriesOf (storeEntry before e) ≡ entriesOf before ++ (e ∷ []) → (i : ℕ) → i < before .count → entryOf (storeEntry before e) i ≡ entryOf before i
+  new-other e s i l =
+      let b : i < storeEntry before e .count = unfold storeEntry in omega arith in
+      held (storeEntry before e) i b ∙ ap (λ (x : List Entry). getD x i defaultEntry) s
+      ∙ List·getD-append (entriesOf before) (e ∷ []) defaultEntry i (omega (arith, length-entries before)) ∙ sym (held before i l)
 
-  update-by : (c : ℕ) (m : List ℕ) (r : UpdateRead) → ByClient es (judgeUpdate c es m r)
-  unfolding judgeUpdate
-  update-by c m (U.Refused fault) = refused
-  update-by c m (U.Update id q v) = by-test (ByClient es) _ _ _ (λ greater. updated greater) (λ _. ignored)
+  new-last : (e : Entry) → entriesOf (storeEntry before e) ≡ entriesOf before ++ (e ∷ []) → entryOf (storeEntry before e) (before .count) ≡ e
+  new-last e s =
+      let b : before .count < storeEntry before e .count = unfold storeEntry in omega arith in
+      held (storeEntry before e) (before .count) b ∙ ap (λ (x : List Entry). getD x (before .count) defaultEntry) s
+      ∙ getD-at (entriesOf before) e [] defaultEntry (before .count) (length-entries before)
 
-  message-by : (c mark : ℕ) (m : List ℕ) → ByClient es (judgeMessage limit es c mark m)
-  unfolding judgeMessage judgeKind judgeHello
-  message-by c mark m =
-      by-test P _ _ _ (λ _.
-      by-test P _ _ _ (λ _. ignored) (λ _.
-      by-test P _ _ _ (λ _. by-test P _ _ _ (λ _. by-test P _ _ _ (λ _. by-test P _ _ _ (λ _. accepted) (λ _. unsupported)) (λ _. refused)) (λ _. refused)) (λ _.
-      by-test P _ _ _ (λ _. by-test P _ _ _ (λ _. assignment-by m _) (λ _. refused)) (λ _.
-      by-test P _ _ _ (λ _. by-test P _ _ _ (λ _. update-by c m _) (λ _. refused)) (λ _. refused)))))
-      (λ _. refused)
+  module _ (id number : ℕ) (value : List ℕ) (l : id < before .count) (s : entriesOf (storeValue before id number value) ≡ withNumberAndValue (entriesOf before) id number value) where
+    stored-get : (i : ℕ) → i < before .count → entryOf (storeValue before id number value) i
+        ≡ getD (set (entriesOf before) id (withUpdate (getD (entriesOf before) id defaultEntry) number value)) i defaultEntry
+    unfolding withNumberAndValue
+    stored-get i b = held (storeValue before id number value) i (unfold storeValue in b) ∙ ap (λ (x : List Entry). getD x i defaultEntry) s
+
+    value-same : entryOf (storeValue before id number value) id ≡ withUpdate (entryOf before id) number value
+    value-same =
+        stored-get id l ∙ getD-set-same (entriesOf before) id (withUpdate (getD (entriesOf before) id defaultEntry) number value) defaultEntry (omega (arith, length-entries before))
+        ∙ ap (λ (e : Entry). withUpdate e number value) (sym (held before id l))
+
+    value-other : (i : ℕ) → i < before .count → i ≢ id → entryOf (storeValue before id number value) i ≡ entryOf before i
+    value-other i b ne =
+        stored-get i b ∙ getD-set-other (entriesOf before) id i (withUpdate (getD (entriesOf before) id defaultEntry) number value) defaultEntry ne ∙ sym (held before i b)
+
+-- ---- a client's message
+
+unchanged : {before : TableMemory} {m : List ℕ} {r : CallResult} → r .memory .table ≡ before → ClientChange before m r
+unchanged e =
+    record { entries = λ i l. EntryAfter.same (ap (λ (t : TableMemory). entryOf t i) e); count = CountAfter.same (ap (λ (t : TableMemory). t .count) e) }
+
+module _ (limit : ℕ) (mem : ServerMemory) (s : SoundMemory limit mem) (m : List ℕ) where
+  abbrev before : TableMemory
+  before = mem .table
+
+  created-changes : (new e : Entry) → BeginsWith m (assignment newId e) → new ≡ newEntry (e .name) (e .type) (e .value) → WellFormed e → WellFormed new
+      → nameHeld (new .name) (entriesOf before) ≡ false → length (entriesOf before) < limit
+      → (r : CallResult) → r .number ≡ 0 → r .memory .table ≡ storeEntry before new → ClientChange before m r
+  created-changes new e first q o w h l r d t =
+      let after = stored-new limit before (s .table) new w h l in
+      record {
+        entries = λ i b. EntryAfter.same (rw t (new-other before new after i b));
+        count = one-more e o first (rw q at h) d (rw t (unfold storeEntry in refl)) (rw t (new-last before new after) ∙ q);
+      }
+
+  updated-changes : (id number : ℕ) (value : List ℕ) → BeginsWith m (update id number value) → id < length (entriesOf before)
+      → IsValue (getD (entriesOf before) id defaultEntry .type) value → passedBy (getD (entriesOf before) id defaultEntry .number) number ≡ true
+      → (r : CallResult) → r .number ≡ 0 → r .memory .table ≡ storeValue before id number value → ClientChange before m r
+  updated-changes id number value first h w g r d t =
+      record { entries = λ i b. entry i b (ℕ-discrete i id); count = CountAfter.same (rw t (unfold storeValue in refl)) }
     where
-      P : Verdict → Type 0
-      P = ByClient es
+      l : id < before .count
+      l = omega (arith, h, length-entries before)
 
-  client-by : (marks : List ℕ) (c : ℕ) (m : List ℕ) → ByClient es (judge limit es marks (clientMessage c m))
-  unfolding judge
-  client-by marks c m = by-test (ByClient es) _ _ _ (λ _. by-test (ByClient es) _ _ _ (λ _. refused) (λ _. message-by c _ m)) (λ _. refused)
+      after : entriesOf (storeValue before id number value) ≡ withNumberAndValue (entriesOf before) id number value
+      after = stored-value limit before (s .table) id number value h w
 
--- ---- what becomes of an entry
+      here : Applied before m r id
+      here =
+          record {
+            number = number;
+            value = value;
+            first = first;
+            value-whole = rw (held before id l) w;
+            greater = rw (held before id l) g;
+            answered = d;
+            entry = rw t (value-same before id number value l after);
+            others = λ j b ne. rw t (value-other before id number value l after j b ne);
+          }
 
-pub data Changed (before after : Entry) : Type 0 where
-  kept : after ≡ before → Changed before after
-  by-greater : after .name ≡ before .name → after .type ≡ before .type → passedBy (before .number) (after .number) ≡ true → Changed before after
+      entry : (i : ℕ) → i < before .count → Dec (i ≡ id) → EntryAfter before m r i
+      entry i b (yes e) = rw e (applied here)
+      entry i b (no ne) = EntryAfter.same (rw t (value-other before id number value l after i b ne))
 
-abbrev entryOf : TableMemory → ℕ → Entry
-entryOf m i = entryAt (m .heads) (m .bytes) i
-
--- entry i of memory after a call
-record Kept (m : TableMemory) (i : ℕ) (r : CallResult) : Type 0 where
-  entry : Changed (entryOf m i) (entryOf (r .memory .table) i)
-
-module _ (limit : ℕ) (mem : ServerMemory) (h : soundTable limit (mem .table) ≡ true) (i : ℕ) (l : i < mem .table .count) where
-  unchanged : {r : CallResult} → r .memory .table ≡ mem .table → Kept (mem .table) i r
-  unchanged e = record { entry = kept (ap (λ (t : TableMemory). entryOf t i) e) }
-
-  -- an entry, read off the entries that memory holds
-  held : (m : TableMemory) → i < m .count → (d : Entry) → entryOf m i ≡ getD (entriesOf m) i d
-  held m b d = sym (entry-get m i d b)
-
-  new-kept : (e : Entry) → entriesOf (storeEntry (mem .table) e) ≡ entriesOf (mem .table) ++ (e ∷ []) → entryOf (storeEntry (mem .table) e) i ≡ entryOf (mem .table) i
-  new-kept e s =
-      let b : i < storeEntry (mem .table) e .count = unfold storeEntry in omega arith in
-      held (storeEntry (mem .table) e) b defaultEntry ∙ ap (λ (x : List Entry). getD x i defaultEntry) s
-      ∙ List·getD-append (entriesOf (mem .table)) (e ∷ []) defaultEntry i (omega (arith, length-entries (mem .table))) ∙ sym (held (mem .table) l defaultEntry)
-
-  value-changed : (id q : ℕ) (v : List ℕ) → id < length (entriesOf (mem .table)) → passedBy (getD (entriesOf (mem .table)) id defaultEntry .number) q ≡ true
-      → entriesOf (storeValue (mem .table) id q v) ≡ withNumberAndValue (entriesOf (mem .table)) id q v
-      → Changed (entryOf (mem .table) i) (entryOf (storeValue (mem .table) id q v) i)
-  unfolding withNumberAndValue
-  value-changed id q v b greater s =
-      rw (held (mem .table) l defaultEntry, held (storeValue (mem .table) id q v) (unfold storeValue in l) defaultEntry, s) (go (ℕ-discrete i id))
-    where
-      new : Entry
-      new = record { name = getD (entriesOf (mem .table)) id defaultEntry .name; type = getD (entriesOf (mem .table)) id defaultEntry .type; number = q; value = v }
-
-      go : Dec (i ≡ id) → Changed (getD (entriesOf (mem .table)) i defaultEntry) (getD (set (entriesOf (mem .table)) id new) i defaultEntry)
-      go (yes e) = rw (e, getD-set-same (entriesOf (mem .table)) id new defaultEntry b) (by-greater refl refl greater)
-      go (no e) = kept (getD-set-other (entriesOf (mem .table)) id i new defaultEntry e)
-
-  done : (out : List ℕ) (call : Call) (v : Verdict) → VerdictIs limit (entriesOf (mem .table)) (mem .marks) call v → ByClient (entriesOf (mem .table)) v → Kept (mem .table) i (execute mem out v)
+  executed-changes : (out : List ℕ) (x : Message) → BeginsWith m x → (v : Verdict) → Comes limit (entriesOf before) x v → ClientChange before m (execute mem out v)
   unfolding execute
-  done out call (refuse fault) f g = unchanged refl
-  done out call (ignore t) f g = unchanged refl
-  done out call (acceptHello c) f g = by-test (Kept (mem .table) i) _ _ _ (λ _. unchanged refl) (λ _. unchanged refl)
-  done out call (unsupportedRevision c) f g = by-test (Kept (mem .table) i) _ _ _ (λ _. unchanged refl) (λ _. unchanged refl)
-  done out call (storeNew e t) (VerdictIs.created w n r) g =
-      by-test (Kept (mem .table) i) _ _ _ (λ _. record { entry = kept (new-kept e (stored-new limit (mem .table) h e w n r)) }) (λ _. unchanged refl)
-  done out call (storeUpdate id q v t to) (VerdictIs.updated b w s) (updated greater) =
-      by-test (Kept (mem .table) i) _ _ _ (λ _. record { entry = value-changed id q v b greater (stored-value limit (mem .table) h id q v b w) }) (λ _. unchanged refl)
+  executed-changes out x first (refuse fault) f = unchanged refl
+  executed-changes out x first (ignore n) f = unchanged refl
+  executed-changes out x first (acceptHello d) f = by-test (ClientChange before m) _ _ _ (λ _. unchanged refl) (λ _. unchanged refl)
+  executed-changes out x first (unsupportedRevision d) f = by-test (ClientChange before m) _ _ _ (λ _. unchanged refl) (λ _. unchanged refl)
+  executed-changes out x first (storeNew new n) (Comes.created e p q o w h l t) =
+      by-test (ClientChange before m) _ _ _ (λ _. created-changes new e (rw p at first) q o w h l _ refl refl) (λ _. unchanged refl)
+  executed-changes out x first (storeUpdate id number value n to) (Comes.updated p h w g t) =
+      by-test (ClientChange before m) _ _ _ (λ _. updated-changes id number value (rw p at first) h w g _ refl refl) (λ _. unchanged refl)
 
--- THE DEMAND: an entry below the count, before and after a client's message
-pub client-changes : (limit : ℕ) (mem : ServerMemory) (c : ℕ) (m out : List ℕ) (i : ℕ) → i < mem .table .count
-    → Changed (entryOf (mem .table) i) (entryOf (callStep limit mem (record { call = clientMessage c m; output = out }) .memory .table) i)
-unfolding callStep
-client-changes limit mem c m out i l =
-    by-test (Kept (mem .table) i) _ _ _ (λ h.
-    done limit mem (and-eq-true-iff (soundTable limit (mem .table)) (soundMarks (mem .marks)) .0 h .0) i l out (clientMessage c m) _
-    (verdict-is limit (entriesOf (mem .table)) (mem .marks) (clientMessage c m)) (client-by limit (entriesOf (mem .table)) (mem .marks) c m))
-    (λ _. record { entry = kept refl }) .entry
+pub client-changes : ClientChanges
+client-changes limit mem c m out b = go _ (client-call limit mem c m out b)
+  where
+    go : (r : CallResult) → ClientCall limit mem c m out r → ClientChange (mem .table) m r
+    go r (ClientCall.refused n) = unchanged refl
+    go r (ClientCall.taken {v} s on x stands p k) = executed-changes limit mem s m out x (stands .first) v k
+
+-- ---- what is ignored
+
+pub not-greater-ignored : NotGreaterIgnored
+unfolding comesTo execute pick layout
+not-greater-ignored limit mem s c b g id number value rest out l w older =
+    let old : passedBy (getD (entriesOf (mem .table)) id defaultEntry .number) number ≡ false = rw (held (mem .table) id l) at older in
+    client-step limit mem s c (connected mem c b (omega arith)) (update id number value) (omega (arith, length-entries (mem .table)), rw (held (mem .table) id l) at w) rest out
+    ∙ rw (g, old)
+
+pub held-name-ignored : HeldNameIgnored
+unfolding comesTo execute pick layout
+held-name-ignored limit mem s c b g e rest out w h =
+    client-step limit mem s c (connected mem c b (omega arith)) (assignment newId e) (refl, w) rest out ∙ rw (g, h)
+
+pub keep-alive-ignored : KeepAliveIgnored
+unfolding comesTo execute layout
+keep-alive-ignored limit mem s c b on rest out = client-step limit mem s c (connected mem c b (omega arith)) keepAlive tt rest out
+
+pub equal-value-ignored : EqualValueIgnored
+unfolding judge judgeWrite execute pick
+equal-value-ignored limit mem s id value out l w same =
+    let b : id < length (entriesOf (mem .table)) = omega (arith, length-entries (mem .table)) in
+    step-is limit mem s (record { call = localWrite id value; output = out })
+    ∙ rw (lt-ltb _ _ b, ← held (mem .table) id l, lone-taken (entryOf (mem .table) id .type) value w, same)

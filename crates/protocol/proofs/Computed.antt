@@ -13,7 +13,8 @@ use Rattle.text.specs.Text.{parseText}
 use Rattle.value.specs.Value.{knownType, parseBoolean, parseElement, parseValue, parseLone}
 use Rattle.scalar.specs.Scalar.{equalValues}
 use Rattle.message.specs.Layout.{assignmentBytes, updateBytes, revisionBytes}
-use Rattle.message.specs.Reader.{parseName, parseValueAt, parseBehindId, parseAfterName, parseAssignment, parseUpdate}
+use Rattle.reader.specs.Reader.{parseTextAt, parseValueAt}
+use Rattle.message.specs.Reader.{parseBehindId, parseAfterName, parseAssignment, parseBehindUpdateId, parseUpdate}
 use Rattle.writer.specs.Writer.{checkName}
 use Rattle.table.specs.Names.{holder, nameHeld, namesDiffer}
 use Rattle.table.specs.Table.{entryAt, tabulate, entriesOf, defaultEntry, headsWithEntry, bytesWithEntry, headsWithValue, bytesWithValue, storeEntry, storeValue}
@@ -32,7 +33,7 @@ stale = record { table = record { heads = replicate 9 7; bytes = replicate 641 9
 abbrev pub lent : Call → LentCall
 lent call = record { call = call; output = replicate 40 1 }
 
--- client 1 is connected; "a" is created locally; client 0 is connected and greeted
+-- client 1 is connected; `a` is created locally; client 0 is connected and greeted
 abbrev pub before : List LentCall
 before = lent (openConnection 1) ∷ lent (localCreate (0x61 ∷ []) 0 (1 ∷ [])) ∷ lent (openConnection 0) ∷ lent (clientMessage 0 (1 ∷ 2 ∷ 0 ∷ [])) ∷ []
 
@@ -40,7 +41,7 @@ before = lent (openConnection 1) ∷ lent (localCreate (0x61 ∷ []) 0 (1 ∷ []
 abbrev pub greeting : LentCall
 greeting = helloCall 1 (7 ∷ []) (replicate 40 1)
 
--- client 0 updates "a"; client 0 asks for "b", a String; client 0 asks for "a" once more (16); "a" is written locally;
+-- client 0 updates `a`; client 0 asks for `b`, a String; client 0 asks for `a` once more (16); `a` is written locally;
 -- a third entry (11), an entry that is not there (6), a connection that is not there (2), a write with no room (12),
 -- client 1's hello once more (3), and client 1's own update with a number that was new when it was greeted (16)
 abbrev pub after : List LentCall
@@ -74,10 +75,10 @@ pub record Computed : Type 0 where
   pub answered : answers 2 (afterStartAndCalls 2 stale []) (before ++ (greeting ∷ after)) ≡
       (nothingSent ∷ (0 ∷ 0 ∷ 10 ∷ 0 ∷ []) ∷ nothingSent ∷ (0 ∷ 3 ∷ 11 ∷ 1 ∷ []) ∷ (0 ∷ 3 ∷ 11 ∷ 2 ∷ []) ∷ (0 ∷ 6 ∷ 6 ∷ 2 ∷ []) ∷ (0 ∷ 12 ∷ 12 ∷ 3 ∷ [])
       ∷ (16 ∷ 10 ∷ 0 ∷ 0 ∷ []) ∷ (0 ∷ 0 ∷ 6 ∷ 3 ∷ []) ∷ refusedWith 11 ∷ refusedWith 6 ∷ refusedWith 2 ∷ refusedWith 12 ∷ refusedWith 3 ∷ (16 ∷ 6 ∷ 0 ∷ 0 ∷ []) ∷ [])
-  -- the bytes that are addressed to client 1: "a", hello complete, the update, "b", the local write
+  -- the bytes that are addressed to client 1: `a`, hello complete, the update, `b`, the local write
   pub bytes-addressed : addressedBytes 2 (afterStartAndCalls 2 stale before) 1 (greeting ∷ after) ≡
       (0x10 ∷ 0 ∷ 1 ∷ 0x61 ∷ 0 ∷ 0 ∷ 0 ∷ 0 ∷ 1 ∷ 1 ∷ 3 ∷ 0x11 ∷ 0 ∷ 0 ∷ 0 ∷ 2 ∷ 0 ∷ 0x10 ∷ 0 ∷ 1 ∷ 0x62 ∷ 2 ∷ 0 ∷ 1 ∷ 0 ∷ 1 ∷ 0 ∷ 1 ∷ 0x7A ∷ 0x11 ∷ 0 ∷ 0 ∷ 0 ∷ 3 ∷ 1 ∷ [])
-  -- and to client 0: not its own update, but the "b" that it asked for, and the local write
+  -- and to client 0: not its own update, but the `b` that it asked for, and the local write
   pub bytes-to-sender : addressedBytes 2 (afterStartAndCalls 2 stale before) 0 (greeting ∷ after) ≡
       (0x10 ∷ 0 ∷ 1 ∷ 0x62 ∷ 2 ∷ 0 ∷ 1 ∷ 0 ∷ 1 ∷ 0 ∷ 1 ∷ 0x7A ∷ 0x11 ∷ 0 ∷ 0 ∷ 0 ∷ 3 ∷ 1 ∷ [])
   -- and nothing of a call that is not done
@@ -96,7 +97,7 @@ pub record Computed : Type 0 where
       (false ∷ false ∷ false ∷ false ∷ false ∷ false ∷ [])
 
 pub computed : Computed
-unfolding answers refusedWith nothingSent pick decode16 encode16 overwriteAt bytesEqual passedBy afterFirst afterByte utf8From isUtf8 parseText knownType parseBoolean parseElement parseValue parseLone equalValues assignmentBytes updateBytes revisionBytes parseName parseValueAt parseBehindId parseAfterName parseAssignment parseUpdate checkName holder nameHeld namesDiffer entryAt tabulate entriesOf defaultEntry headsWithEntry bytesWithEntry headsWithValue bytesWithValue storeEntry storeValue allBelow soundEntry largeEnough soundTable soundMarks bitSet testBit recipientSet helloAnswer judgeHello judgeAssignment judgeUpdate judgeKind judgeMessage judgeCreate judgeWrite judge execute callStep freshStart memoryAfterRun addressedByCall addressedBytes StaysWithoutOwnUpdate
+unfolding answers refusedWith nothingSent pick decode16 encode16 overwriteAt bytesEqual passedBy afterFirst afterByte utf8From isUtf8 parseText knownType parseBoolean parseElement parseValue parseLone equalValues assignmentBytes updateBytes revisionBytes parseTextAt parseValueAt parseBehindId parseAfterName parseAssignment parseBehindUpdateId parseUpdate checkName holder nameHeld namesDiffer entryAt tabulate entriesOf defaultEntry headsWithEntry bytesWithEntry headsWithValue bytesWithValue storeEntry storeValue allBelow soundEntry largeEnough soundTable soundMarks bitSet testBit recipientSet helloAnswer judgeHello judgeAssignment judgeUpdate judgeKind judgeMessage judgeCreate judgeWrite judge execute callStep freshStart memoryAfterRun addressedByCall addressedBytes StaysWithoutOwnUpdate
 computed =
     record {
       started = refl;

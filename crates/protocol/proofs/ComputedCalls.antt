@@ -2,7 +2,6 @@
 use mathlib.Core.Path.{_≡_, refl}
 use mathlib.Core.Bool.{true}
 use mathlib.Core.List.{List, [], _∷_, _++_}
-use Prim.Native.Nat.{ℕ}
 use lib.ListN.{replicate}
 use Rattle.field.specs.Choice.{pick}
 use Rattle.field.specs.Octets.{decode16, encode16, overwriteAt, bytesEqual}
@@ -13,7 +12,8 @@ use Rattle.value.specs.Value.{knownType, parseBoolean, parseElement, parseValue
 use Rattle.scalar.specs.Scalar.{scalarOf, equalValues}
 use Rattle.scalar.specs.declared.Scalar.the-variants.{Boolean, Neither, Refused}
 use Rattle.message.specs.Layout.{assignmentBytes, updateBytes, revisionBytes}
-use Rattle.message.specs.Reader.{parseName, parseValueAt, parseBehindId, parseAfterName, parseAssignment, parseUpdate}
+use Rattle.reader.specs.Reader.{parseTextAt, parseValueAt}
+use Rattle.message.specs.Reader.{parseBehindId, parseAfterName, parseAssignment, parseBehindUpdateId, parseUpdate}
 use Rattle.writer.specs.Writer.{checkName}
 use Rattle.table.specs.Names.{holder, nameHeld, namesDiffer}
 use Rattle.table.specs.Table.{entryAt, tabulate, entriesOf, defaultEntry, headsWithEntry, bytesWithEntry, headsWithValue, bytesWithValue, storeEntry, storeValue}
@@ -25,7 +25,7 @@ use Rattle.protocol.specs.Step.{ServerMemory, LentCall, execute, callSte
 use Rattle.protocol.specs.Run.{memoryAfterRun, afterStartAndCalls}
 use Rattle.protocol.proofs.Computed.{stale, lent, before, greeting, after, answers, refusedWith, nothingSent}
 
--- a server that holds "a" and "b", which is all there is room for, with connections 0 and 1 greeted
+-- a server that holds `a` and `b`, which is all there is room for, with connections 0 and 1 greeted
 abbrev full : ServerMemory
 full = afterStartAndCalls 2 stale (before ++ (greeting ∷ after))
 
@@ -78,7 +78,7 @@ record ComputedCalls : Type 0 where
   read-unsound : readScalar 2 (stale .table) 0 ≡ Refused 14
 
 computed-calls : ComputedCalls
-unfolding answers refusedWith nothingSent pick decode16 encode16 overwriteAt bytesEqual passedBy afterFirst afterByte utf8From isUtf8 parseText knownType parseBoolean parseElement parseValue parseLone scalarOf equalValues assignmentBytes updateBytes revisionBytes parseName parseValueAt parseBehindId parseAfterName parseAssignment parseUpdate checkName holder nameHeld namesDiffer entryAt tabulate entriesOf defaultEntry headsWithEntry bytesWithEntry headsWithValue bytesWithValue storeEntry storeValue allBelow soundEntry largeEnough soundTable soundMarks bitSet testBit recipientSet helloAnswer judgeHello judgeAssignment judgeUpdate judgeKind judgeMessage judgeCreate judgeWrite judge execute callStep freshStart readScalar memoryAfterRun
+unfolding answers refusedWith nothingSent pick decode16 encode16 overwriteAt bytesEqual passedBy afterFirst afterByte utf8From isUtf8 parseText knownType parseBoolean parseElement parseValue parseLone scalarOf equalValues assignmentBytes updateBytes revisionBytes parseTextAt parseValueAt parseBehindId parseAfterName parseAssignment parseBehindUpdateId parseUpdate checkName holder nameHeld namesDiffer entryAt tabulate entriesOf defaultEntry headsWithEntry bytesWithEntry headsWithValue bytesWithValue storeEntry storeValue allBelow soundEntry largeEnough soundTable soundMarks bitSet testBit recipientSet helloAnswer judgeHello judgeAssignment judgeUpdate judgeKind judgeMessage judgeCreate judgeWrite judge execute callStep freshStart readScalar memoryAfterRun
 computed-calls =
     record {
       mark-answers = refl;

@@ -8,7 +8,8 @@ use Rattle.field.specs.Octets.{decode16, encode16, overwriteAt, bytesEqual}
 use Rattle.text.specs.Utf8.{afterFirst, afterByte, utf8From, isUtf8}
 use Rattle.text.specs.Text.{parseText}
 use Rattle.value.specs.Value.{knownType, parseBoolean, parseElement, parseValue, parseLone}
-use Rattle.message.specs.Reader.{parseName, parseValueAt, parseBehindId, parseAfterName, parseAssignment, parseUpdate}
+use Rattle.reader.specs.Reader.{parseTextAt, parseValueAt}
+use Rattle.message.specs.Reader.{parseBehindId, parseAfterName, parseAssignment, parseBehindUpdateId, parseUpdate}
 use Rattle.table.specs.Names.{holder, nameHeld, namesDiffer}
 use Rattle.table.specs.Table.{TableMemory, entryAt, tabulate, entriesOf, defaultEntry, headsWithEntry, bytesWithEntry, headsWithValue, bytesWithValue, storeEntry, storeValue}
 use Rattle.soundness.specs.Sound.{allBelow, soundEntry, largeEnough, soundTable}
@@ -18,9 +19,9 @@ use Rattle.protocol.specs.Copy.{CopyResult, judgeCopyAssignment, judgeCo
 abbrev stale : TableMemory
 stale = record { heads = replicate 8 3; bytes = replicate 640 255; count = 5 }
 
--- "a" with number 7; "a" once more (13); an ID that is not next (5); an update with an older number; an ID that is not held (6);
+-- `a` with number 7; `a` once more (13); an ID that is not next (5); an update with an older number; an ID that is not held (6);
 -- keep alive and hello complete, with a byte behind them; 1.0 is spoken, and the same cut short (1); a hello (4); nothing (1);
--- "b", a String with number 9; a third entry (11)
+-- `b`, a String with number 9; a third entry (11)
 abbrev messages : List (List ℕ)
 messages =
     (0x10 ∷ 0 ∷ 1 ∷ 0x61 ∷ 0 ∷ 0 ∷ 0 ∷ 0 ∷ 7 ∷ 1 ∷ 9 ∷ []) ∷ (0x10 ∷ 0 ∷ 1 ∷ 0x61 ∷ 0 ∷ 0 ∷ 1 ∷ 0 ∷ 7 ∷ 1 ∷ []) ∷ (0x10 ∷ 0 ∷ 1 ∷ 0x62 ∷ 0 ∷ 0 ∷ 0 ∷ 0 ∷ 7 ∷ 1 ∷ [])
@@ -53,7 +54,7 @@ record ComputedCopy : Type 0 where
       (record { name = 0x61 ∷ []; type = 0; number = 3; value = 0 ∷ [] } ∷ record { name = 0x62 ∷ []; type = 2; number = 9; value = 0 ∷ 0 ∷ [] } ∷ [])
 
 computed-copy : ComputedCopy
-unfolding answers afterAll refusedWith pick decode16 encode16 overwriteAt bytesEqual afterFirst afterByte utf8From isUtf8 parseText knownType parseBoolean parseElement parseValue parseLone parseName parseValueAt parseBehindId parseAfterName parseAssignment parseUpdate holder nameHeld namesDiffer entryAt tabulate entriesOf defaultEntry headsWithEntry bytesWithEntry headsWithValue bytesWithValue storeEntry storeValue allBelow soundEntry largeEnough soundTable judgeCopyAssignment judgeCopyUpdate judgeCopyKind judgeCopy executeCopy copyMessage copyFreshStart
+unfolding answers afterAll refusedWith pick decode16 encode16 overwriteAt bytesEqual afterFirst afterByte utf8From isUtf8 parseText knownType parseBoolean parseElement parseValue parseLone parseTextAt parseValueAt parseBehindId parseAfterName parseAssignment parseBehindUpdateId parseUpdate holder nameHeld namesDiffer entryAt tabulate entriesOf defaultEntry headsWithEntry bytesWithEntry headsWithValue bytesWithValue storeEntry storeValue allBelow soundEntry largeEnough soundTable judgeCopyAssignment judgeCopyUpdate judgeCopyKind judgeCopy executeCopy copyMessage copyFreshStart
 computed-copy =
     record {
       started = refl;

@@ -7,6 +7,7 @@ use native.Mathlib.Omega.{arith}
 use lib.Dec.{ltb}
 use lib.ListN.{length, getD}
 use borrow.Author.Tests.{ltb-true, leb-true, eqb-true}
+use Rattle.field.specs.Answer.{RefusalNumber}
 use Rattle.field.specs.Choice.{pick}
 use Rattle.field.specs.Field.{faultAt, andThen}
 use Rattle.field.specs.declared.Fault.{Fault}
@@ -28,7 +29,7 @@ use Rattle.writer.proofs.WriterLaws.{NameIs, name-is}
 use Rattle.table.specs.Names.{nameHeld}
 use Rattle.table.specs.Table.{defaultEntry}
 use Rattle.answer.specs.Recipients.{Recipients, allGreeted, otherGreeted}
-use Rattle.message.proofs.RefusalLaws.{RefusalNumber, refusal-number, RefusedRightly, numbered, lone-rightly, AssignmentRefused, assignment-rightly, UpdateRefused, update-rightly}
+use Rattle.message.proofs.RefusalLaws.{refusal-number, RefusedRightly, numbered, lone-rightly, AssignmentRefused, assignment-rightly, UpdateRefused, update-rightly}
 use Rattle.protocol.specs.Judge.{Call, openConnection, leave, clientMessage, localCreate, localWrite, readEntry, Verdict, refuse, ignore, readDone, openMark, closeMark, acceptHello, unsupportedRevision, storeNew, storeUpdate, newId, judgeHello, judgeAssignment, judgeUpdate, judgeKind, judgeMessage, judgeCreate, judgeWrite, judge, refuseCall, newEntry}
 
 -- to whom an update goes: a local write's to all greeted, a client's to all but that client
@@ -48,7 +49,7 @@ pub data VerdictIs (limit : ℕ) (es : List Entry) (marks : List ℕ) (call : Ca
   updated : {id number taken : ℕ} {value : List ℕ} {to : Recipients} → id < length es → IsValue (getD es id defaultEntry .type) value → SentTo call to
       → VerdictIs limit es marks call (storeUpdate id number value taken to)
 
-name-rightly : (name : List ℕ) → RefusedRightly (checkName name)
+pub name-rightly : (name : List ℕ) → RefusedRightly (checkName name)
 unfolding checkName
 name-rightly name =
     by-test RefusedRightly _ _ _ (λ _. by-test RefusedRightly _ _ _ (λ _. RefusedRightly.taken) (λ _. numbered 9 0 (omega arith) (omega arith))) (λ _. numbered 10 0 (omega arith) (omega arith))
@@ -64,18 +65,18 @@ module _ (limit : ℕ) (es : List Entry) (marks : List ℕ) where
       → VerdictIs limit es marks call (judgeAssignment limit es m r)
   unfolding judgeAssignment
   assignment-verdict call allowed m (A.Refused fault) f (AssignmentRefused.refused n) = refused n
-  assignment-verdict call allowed m (A.Assignment n t id q v) (AssignmentIs.taken a h w) g =
+  assignment-verdict call allowed m (A.Assignment n t id q v) (AssignmentIs.taken a h w f) g =
       by-test (VerdictIs limit es marks call) _ _ _ (λ _. ignored) (λ new.
-      by-test (VerdictIs limit es marks call) _ _ _ (λ l. created (w 1) new (ltb-true _ _ l)) (λ _. refusal call 11 (omega arith) (omega arith)))
+      by-test (VerdictIs limit es marks call) _ _ _ (λ l. created (w _) new (ltb-true _ _ l)) (λ _. refusal call 11 (omega arith) (omega arith)))
 
   update-verdict : (c : ℕ) (m : List ℕ) → 1 ≤ length m → getD m 0 0 ≡ updateKind → (r : UpdateRead)
       → UpdateIs (λ id. ltb id (length es)) (λ id. getD es id defaultEntry .type) m r → UpdateRefused r → VerdictIs limit es marks (clientMessage c m) (judgeUpdate c es m r)
   unfolding judgeUpdate
   update-verdict c m l k (U.Refused fault) f (UpdateRefused.refused h) = refused h
-  update-verdict c m l k (U.Update id q v) (UpdateIs.taken h n w) g =
+  update-verdict c m l k (U.Update id q v) (UpdateIs.taken h n w i q′) g =
       by-test (VerdictIs limit es marks (clientMessage c m)) _ _ _ (λ _. updated (ltb-true _ _ h) w (client-update refl l k)) (λ _. ignored)
 
-  message-verdict : (c : ℕ) (m : List ℕ) → c < 16 → VerdictIs limit es marks (clientMessage c m) (judgeMessage limit es c (getD marks c 0) m)
+  pub message-verdict : (c : ℕ) (m : List ℕ) → c < 16 → VerdictIs limit es marks (clientMessage c m) (judgeMessage limit es c (getD marks c 0) m)
   unfolding judgeMessage judgeKind judgeHello
   message-verdict c m l =
       by-test P _ _ _ (λ there.

@@ -1,9 +1,15 @@
 pub mod JudgeLaws
 pub mod SoundnessLaws
 pub mod AnswerLaws
+pub mod MessageLaws
+pub mod TakenLaws
 pub mod ReadLaws
 pub mod ChangeLaws
+pub mod DoneLaws
 pub mod Computed
 pub mod ComputedCalls
 pub mod CopyLaws
+pub mod CopyTakenLaws
 pub mod ComputedCopy
+pub mod CopyDoneLaws
+pub mod RefusedLaws

@@ -17,8 +17,9 @@ use Rattle.table.specs.Table.{entryAt}
 use Rattle.table.proofs.TabulateLaws.{length-entries}
 use Rattle.soundness.specs.Sound.{soundTable}
 use Rattle.answer.proofs.RecipientLaws.{nobody-set}
-use Rattle.protocol.specs.Judge.{readEntry, readDone, refuseCall, judge}
+use Rattle.protocol.specs.Judge.{readDone, refuseCall, judge}
 use Rattle.protocol.specs.Step.{ServerMemory, refusal, execute, callStep, readScalar, numberOf}
+use Rattle.protocol.specs.Answered.{ReadAnswered}
 
 -- a value that is there is read with 0
 scalar-done : (type : ℕ) (value : List ℕ) → numberOf (scalarOf type value) ≡ 0
@@ -42,10 +43,9 @@ module _ (mem : ServerMemory) (out : List ℕ) where
   decided true false read e = refl
   decided false held read e = refl
 
-  pub read-answered : (limit id : ℕ) → callStep limit mem (record { call = readEntry id; output = out })
-      ≡ record { number = numberOf (readScalar limit (mem .table) id); taken = 0; sent = 0; recipients = 0; memory = mem; output = out }
-  unfolding callStep judge readScalar
-  read-answered limit id =
-      let e = entryAt (mem .table .heads) (mem .table .bytes) id in
-      rw (length-entries (mem .table))
-      (decided (soundTable limit (mem .table)) (ltb id (mem .table .count)) (scalarOf (e .type) (e .value)) (scalar-done (e .type) (e .value)))
+pub read-answered : ReadAnswered
+unfolding callStep judge readScalar
+read-answered mem out limit id =
+    let e = entryAt (mem .table .heads) (mem .table .bytes) id in
+    rw (length-entries (mem .table))
+    (decided mem out (soundTable limit (mem .table)) (ltb id (mem .table .count)) (scalarOf (e .type) (e .value)) (scalar-done (e .type) (e .value)))

@@ -19,12 +19,9 @@ use Rattle.soundness.specs.Sound.{largeEnough, soundTable, soundMarks}
 use Rattle.soundness.proofs.SoundLaws.{marks-facts, facts-marks}
 use Rattle.protocol.specs.Judge.{Call, openConnection, leave, clientMessage, localCreate, localWrite, readEntry, Verdict, refuse, ignore, readDone, openMark, closeMark, acceptHello, unsupportedRevision, storeNew, storeUpdate, judge}
 use Rattle.protocol.specs.Step.{ServerMemory, LentCall, CallResult, withMark, execute, soundFor, callStep, StartResult, freshStart}
+use Rattle.protocol.specs.Kept.{SoundMemory, StartSound, SoundKept, SoundTableKept}
 use Rattle.soundness.proofs.StoredLaws.{new-sound, value-sound, empty-sound}
 use Rattle.protocol.proofs.JudgeLaws.{VerdictIs, verdict-is}
-
-pub record SoundMemory (limit : ℕ) (mem : ServerMemory) : Type 0 where
-  pub table : soundTable limit (mem .table) ≡ true
-  pub marks : soundMarks (mem .marks) ≡ true
 
 -- ---- a call
 
@@ -76,10 +73,10 @@ module _ (limit : ℕ) (mem : ServerMemory) (s : SoundMemory limit mem) where
   unfolding callStep
   step-is k = pick-true _ _ (sound-for (k .call))
 
-  pub sound-kept : (k : LentCall) → SoundMemory limit (callStep limit mem k .memory)
-  sound-kept k =
-      rw (step-is k)
-      (execute-sound (k .output) (k .call) (judge limit (entriesOf (mem .table)) (mem .marks) (k .call)) (verdict-is limit (entriesOf (mem .table)) (mem .marks) (k .call)) .after)
+pub sound-kept : SoundKept
+sound-kept limit mem s k =
+    rw (step-is limit mem s k)
+    (execute-sound limit mem s (k .output) (k .call) (judge limit (entriesOf (mem .table)) (mem .marks) (k .call)) (verdict-is limit (entriesOf (mem .table)) (mem .marks) (k .call)) .after)
 
 record SoundTableAfter (limit : ℕ) (r : CallResult) : Type 0 where
   after : soundTable limit (r .memory .table) ≡ true
@@ -107,8 +104,7 @@ table-unmarked limit mem s u out (localCreate name type value) = rw (s, u) s
 table-unmarked limit mem s u out (localWrite id value) = rw (s, u) s
 table-unmarked limit mem s u out (readEntry id) = read-kept limit mem s out id .after
 
--- every call keeps a sound table sound, whatever the marks are
-pub sound-table-kept : (limit : ℕ) (mem : ServerMemory) (k : LentCall) → soundTable limit (mem .table) ≡ true → soundTable limit (callStep limit mem k .memory .table) ≡ true
+pub sound-table-kept : SoundTableKept
 sound-table-kept limit mem k s = go (soundMarks (mem .marks)) refl
   where
     go : (t : Bool) → soundMarks (mem .marks) ≡ t → soundTable limit (callStep limit mem k .memory .table) ≡ true
@@ -145,5 +141,5 @@ started limit mem =
           marks = facts-marks (overwriteAt (mem .marks) 0 (replicate 16 0)) (omega (arith, length-overwrite (mem .marks) 0 (replicate 16 0))) (closed-marks l);
         }
 
-pub start-sound : (limit : ℕ) (mem : ServerMemory) → freshStart limit mem .number ≡ 0 → SoundMemory limit (freshStart limit mem .memory)
+pub start-sound : StartSound
 start-sound limit mem e = started limit mem .at-done e

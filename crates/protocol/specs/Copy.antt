@@ -9,7 +9,7 @@ use Rattle.field.specs.Octets.{decode16}
 use Rattle.field.specs.Field.{faultAt, demandBytes}
 use Rattle.field.specs.declared.Fault.{Fault}
 use Rattle.message.specs.Layout.{Entry, kindSize, revisionLength, keepAliveKind, unsupportedKind, helloCompleteKind, assignmentKind, updateKind}
-use Rattle.message.specs.Reader.{idAllowed, parseAssignment, nameIn, valueIn, updateValueIn, assignmentLength, updateLength}
+use Rattle.message.specs.Reader.{idAllowed, parseAssignment, nameIn, updateValueIn, entryIn, assignmentLength, updateLength}
 use Rattle.message.specs.declared.AllowedId.the-variants.{Only}
 use Rattle.message.specs.declared.AssignmentRead.{AssignmentRead}
 use Rattle.message.specs.declared.AssignmentRead.the-variants as A
@@ -29,11 +29,6 @@ pub data CopyVerdict : Type 0 where
 -- a refusal that concerns no field past the first
 abbrev pub refuseMessage : (number : ℕ) → CopyVerdict
 refuseMessage number = refuse (faultAt number 0)
-
--- the entry of an assignment, "stored with its number"
-abbrev pub entryIn : (nameLength type number valueLength : ℕ) → List ℕ → Entry
-entryIn nameLength type number valueLength m =
-    record { name = nameIn nameLength m; type = type; number = number; value = valueIn nameLength valueLength m }
 
 -- "An assignment's ID must equal the copy's count (5); after its value 13, then 11; else it is stored with its number."
 unfoldable pub judgeCopyAssignment : ℕ → List Entry → List ℕ → AssignmentRead → CopyVerdict

@@ -3,3 +3,11 @@ pub mod Step
 pub mod Lent
 pub mod Run
 pub mod Copy
+pub mod Answered
+pub mod Kept
+pub mod Taken
+pub mod Change
+pub mod Done
+pub mod CopyTaken
+pub mod CopyDone
+pub mod Refused
