@@ -5,9 +5,9 @@ use mathlib.Core.Path.{_≡_}
 use lib.ListN.{length}
 use Rattle.value.specs.Value.{maxValueSize}
 use Rattle.message.specs.Layout.{maxNameLength}
-use Rattle.message.specs.Reader.{updateValueIn, assignmentLength, updateLength}
+use Rattle.message.specs.Reader.{updateValueIn, entryIn, assignmentLength, updateLength}
 use Rattle.table.specs.Table.{TableMemory, maxEntries}
-use Rattle.protocol.specs.Copy.{CopyVerdict, refuse, ignore, storeNew, storeUpdate, entryIn, CopyResult, CopyStart}
+use Rattle.protocol.specs.Copy.{CopyVerdict, refuse, ignore, storeNew, storeUpdate, CopyResult, CopyStart}
 use Rattle.answer.specs.declared.Answer.{Answer}
 use Rattle.client.specs.declared.Copied.{Copied}
 use Rattle.client.specs.declared.CopyDecision.{CopyDecision}

@@ -23,7 +23,7 @@ ghost use Prim.Native.Nat.{ℕ, _+_, _≤_};
 ghost use lib.ListN.{length};
 ghost use Rattle.field.specs.Answer.{done, ignored};
 ghost use Rattle.value.specs.Value.{maxValueSize};
-ghost use Rattle.message.specs.Layout.{kindSize, maxNameLength};
+ghost use Rattle.message.specs.Layout.{maxNameLength};
 ghost use Rattle.message.specs.Lent.{lentEntry};
 ghost use Rattle.message.specs.Reader.{idAllowed, parseAssignment};
 ghost use Rattle.table.specs.Table.{Holds, lent, entriesOf, storeEntry, parseHeldUpdate, maxEntries};
@@ -94,8 +94,7 @@ pub enum CopyDecision {
 
 // An assignment: a new entry with the ID that comes next, stored with its number.
 fn judge_assignment(heads: &[u16], bytes: &[u8], count: u16, m: &[u8]) -> CopyDecision
-    requires sound { ⌜ soundTable maxEntries (lent heads bytes count) ≡ true ⌝ }
-    requires kind { ⌜ kindSize ≤ length (now m) ⌝ }
+    requires { ⌜ soundTable maxEntries (lent heads bytes count) ≡ true ⌝ }
     ensures { λ r.
         ⌜ DecidesCopy count (now (m .entry)) r
         (judgeCopyAssignment maxEntries (entriesOf (lent (heads .entry) (bytes .entry) count)) (now (m .entry))
@@ -154,7 +153,7 @@ fn judge_update(heads: &[u16], bytes: &[u8], count: u16, m: &[u8]) -> CopyDecisi
 fn judge_unsupported(m: &[u8]) -> CopyDecision
     ensures { λ r. ⌜ ((count : ℕ) → DecidesCopy count (now (m .entry)) r (judgeUnsupported (now (m .entry)))) ⌝ }
 {
-    let Number::There(revision) = reader::behind_kind(m) else {
+    let Number::There(revision) = reader::number_at(m, KIND_SIZE) else {
         return CopyDecision::Refuse(fault_at(INCOMPLETE, KIND_SIZE));
     };
     CopyDecision::Ignore {
@@ -170,7 +169,7 @@ fn judge_copy(heads: &[u16], bytes: &[u8], count: u16, m: &[u8]) -> CopyDecision
         ⌜ DecidesCopy count (now (m .entry)) r
         (judgeCopy maxEntries (entriesOf (lent (heads .entry) (bytes .entry) count)) (now (m .entry))) ⌝ }
 {
-    let Octet::There(kind) = reader::kind(m) else {
+    let Octet::There(kind) = reader::octet_at(m, 0) else {
         return CopyDecision::Refuse(fault_at(INCOMPLETE, 0));
     };
     if kind == message::KEEP_ALIVE {

@@ -7,19 +7,23 @@ use Rattle.protocol.specs.Judge.{refuse, ignore}
 use Rattle.judge.specs.declared.Decision.{Decision}
 use Rattle.judge.specs.declared.Decision.the-variants as D
 use Rattle.judge.specs.declared.MarkDecision.{MarkDecision}
+use Rattle.judge.specs.declared.MarkDecision.the-variants as K
 use Rattle.judge.specs.declared.CreateDecision.{CreateDecision}
 use Rattle.judge.specs.declared.CreateDecision.the-variants as C
 use Rattle.judge.specs.declared.WriteDecision.{WriteDecision}
 use Rattle.judge.specs.declared.WriteDecision.the-variants as W
-use Rattle.judge.specs.Decision.{Decides, DecidesCreate, DecidesWrite, Performable, Markable, Creatable, Writable}
+use Rattle.judge.specs.Decision.{Decides, DecidesMark, DecidesCreate, DecidesWrite, Performable, Markable, Creatable, Writable}
 
 -- ---- a refusal, and what is ignored
 
-pub decides-refusal : (count : ℕ) (m : List ℕ) (fault : Fault) → Decides count m (D.Refuse fault) (refuse fault)
-decides-refusal count m fault = record { verdict = refl; performable = tt }
+pub decides-refusal : (count c : ℕ) (m : List ℕ) (fault : Fault) → Decides count c m (D.Refuse fault) (refuse fault)
+decides-refusal count c m fault = record { verdict = refl; performable = tt }
 
-pub decides-ignored : (count : ℕ) (m : List ℕ) (taken : ℕ) → Decides count m (D.Ignore taken) (ignore taken)
-decides-ignored count m taken = record { verdict = refl; performable = tt }
+pub decides-ignored : (count c : ℕ) (m : List ℕ) (taken : ℕ) → Decides count c m (D.Ignore taken) (ignore taken)
+decides-ignored count c m taken = record { verdict = refl; performable = tt }
+
+pub mark-refusal : (c : ℕ) (fault : Fault) → DecidesMark c (K.Refuse fault) (refuse fault)
+mark-refusal c fault = record { verdict = refl; markable = tt }
 
 pub create-refusal : (count : ℕ) (name : List ℕ) (type : ℕ) (value : List ℕ) (fault : Fault) → DecidesCreate count name type value (C.Refuse fault) (refuse fault)
 create-refusal count name type value fault = record { verdict = refl; creatable = tt }
@@ -29,8 +33,8 @@ write-refusal count id value fault = record { verdict = refl; writable = tt }
 
 -- ---- what a decision relies on, for a decision that is known
 
-pub known-performable : (count : ℕ) (m : List ℕ) (d e : Decision) → d ≡ e → Performable count m d → Performable count m e
-known-performable count m d e same h = rw same at h
+pub known-performable : (count c : ℕ) (m : List ℕ) (d e : Decision) → d ≡ e → Performable count c m d → Performable count c m e
+known-performable count c m d e same h = rw same at h
 
 pub known-markable : (c : ℕ) (d e : MarkDecision) → d ≡ e → Markable c d → Markable c e
 known-markable c d e same h = rw same at h

@@ -19,33 +19,33 @@ use Rattle.judge.specs.declared.CreateDecision.the-variants as C
 use Rattle.judge.specs.declared.WriteDecision.{WriteDecision}
 use Rattle.judge.specs.declared.WriteDecision.the-variants as W
 
--- ---- a client's message m
+-- ---- a message m of connection c
 
-abbrev pub verdictOf : List ℕ → Decision → Verdict
-verdictOf m (D.Refuse fault) = refuse fault
-verdictOf m (D.Ignore taken) = ignore taken
-verdictOf m (D.AcceptHello c) = acceptHello c
-verdictOf m (D.UnsupportedRevision c) = unsupportedRevision c
-verdictOf m (D.StoreNew type nameLength valueLength) =
+abbrev pub verdictOf : (c : ℕ) → List ℕ → Decision → Verdict
+verdictOf c m (D.Refuse fault) = refuse fault
+verdictOf c m (D.Ignore taken) = ignore taken
+verdictOf c m D.AcceptHello = acceptHello c
+verdictOf c m D.UnsupportedRevision = unsupportedRevision c
+verdictOf c m (D.StoreNew type nameLength valueLength) =
     storeNew (newEntry (nameIn nameLength m) type (valueIn nameLength valueLength m)) (assignmentLength nameLength valueLength)
-verdictOf m (D.StoreUpdate id number valueLength sender) =
-    storeUpdate id number (updateValueIn valueLength m) (updateLength valueLength) (otherGreeted sender)
+verdictOf c m (D.StoreUpdate id number valueLength) =
+    storeUpdate id number (updateValueIn valueLength m) (updateLength valueLength) (otherGreeted c)
 
 -- what performing relies on: the connection is one, name and value are in the message, and a table of so many entries has the place
-abbrev pub Performable : (count : ℕ) → List ℕ → Decision → Type 0
-Performable count m (D.Refuse fault) = Unit {0}
-Performable count m (D.Ignore taken) = Unit {0}
-Performable count m (D.AcceptHello c) = c < connections
-Performable count m (D.UnsupportedRevision c) = c < connections
-Performable count m (D.StoreNew type nameLength valueLength) =
+abbrev pub Performable : (count c : ℕ) → List ℕ → Decision → Type 0
+Performable count c m (D.Refuse fault) = Unit {0}
+Performable count c m (D.Ignore taken) = Unit {0}
+Performable count c m D.AcceptHello = c < connections
+Performable count c m D.UnsupportedRevision = c < connections
+Performable count c m (D.StoreNew type nameLength valueLength) =
     (count < maxEntries) × (assignmentLength nameLength valueLength ≤ length m) × (nameLength ≤ maxNameLength) × (valueLength ≤ maxValueSize)
-Performable count m (D.StoreUpdate id number valueLength sender) =
+Performable count c m (D.StoreUpdate id number valueLength) =
     (id < count) × (updateLength valueLength ≤ length m) × (valueLength ≤ maxValueSize)
 
 -- the decision is this verdict, and can be performed
-pub record Decides (count : ℕ) (m : List ℕ) (d : Decision) (v : Verdict) : Type 0 where
-  pub verdict : verdictOf m d ≡ v
-  pub performable : Performable count m d
+pub record Decides (count c : ℕ) (m : List ℕ) (d : Decision) (v : Verdict) : Type 0 where
+  pub verdict : verdictOf c m d ≡ v
+  pub performable : Performable count c m d
 
 -- ---- opening and leaving
 

@@ -25,7 +25,7 @@ ghost use mathlib.Core.Bool.{true};
 ghost use Prim.Native.Nat.{ℕ, _≤_, _<_};
 ghost use mathlib.Core.List.{List};
 ghost use lib.ListN.{length};
-ghost use Rattle.message.specs.Layout.{Entry, kindSize};
+ghost use Rattle.message.specs.Layout.{Entry};
 ghost use Rattle.message.specs.Reader.{idAllowed, parseAssignment};
 ghost use Rattle.table.specs.Table.{lent, entriesOf, parseHeldUpdate, maxEntries};
 ghost use Rattle.soundness.specs.Sound.{soundTable, connections};
@@ -40,13 +40,13 @@ pub const NEW_ID: u16 = 0xFFFF;
 
 // ---- a client's message
 
-// A verdict on a client's message. Names and values stay in the message. A type stands before lengths: no other verdict has a length in its
-// place, so that it is not read back with bytes that were stored apart.
+// A verdict on a client's message. Names and values stay in the message, the connection with the caller. A type stands before lengths: no
+// other verdict has a length in its place, so that it is not read back with bytes that were stored apart.
 pub enum Decision {
     Refuse(Fault),
     Ignore(usize),
-    AcceptHello(usize),
-    UnsupportedRevision(usize),
+    AcceptHello,
+    UnsupportedRevision,
     StoreNew {
         type_code: u8,
         name_length: usize,
@@ -56,33 +56,32 @@ pub enum Decision {
         id: u16,
         number: u16,
         value_length: usize,
-        sender: usize,
     },
 }
 
-fn judge_hello(c: usize, mark: u8, m: &[u8]) -> Decision
-    requires { ⌜ c < connections ⌝ }
-    ensures { λ r. ⌜ ((count : ℕ) → Decides count (now (m .entry)) r (judgeHello c mark (now (m .entry)))) ⌝ }
+fn judge_hello(mark: u8, m: &[u8]) -> Decision
+    ensures { λ r.
+        ⌜ ((count c : ℕ) → c < connections →
+        Decides count c (now (m .entry)) r (judgeHello c mark (now (m .entry)))) ⌝ }
 {
     if mark != soundness::OPEN {
         return Decision::Refuse(fault_at(WRONG_STATE, 0));
     }
-    let Number::There(revision) = reader::behind_kind(m) else {
+    let Number::There(revision) = reader::number_at(m, KIND_SIZE) else {
         return Decision::Refuse(fault_at(INCOMPLETE, KIND_SIZE));
     };
     if revision == REVISION {
-        return Decision::AcceptHello(c);
+        return Decision::AcceptHello;
     }
-    Decision::UnsupportedRevision(c)
+    Decision::UnsupportedRevision
 }
 
 fn judge_assignment(heads: &[u16], bytes: &[u8], count: u16, m: &[u8]) -> Decision
-    requires sound { ⌜ soundTable maxEntries (lent heads bytes count) ≡ true ⌝ }
-    requires kind { ⌜ kindSize ≤ length (now m) ⌝ }
+    requires { ⌜ soundTable maxEntries (lent heads bytes count) ≡ true ⌝ }
     ensures { λ r.
-        ⌜ Decides count (now (m .entry)) r
+        ⌜ ((c : ℕ) → Decides count c (now (m .entry)) r
         (judgeAssignment maxEntries (entriesOf (lent (heads .entry) (bytes .entry) count)) (now (m .entry))
-        (parseAssignment (idAllowed (AllowedId.Only newId)) (now (m .entry)))) ⌝ }
+        (parseAssignment (idAllowed (AllowedId.Only newId)) (now (m .entry))))) ⌝ }
 {
     match message::read_assignment(m, AllowedId::Only(NEW_ID)) {
         AssignmentRead::Refused(fault) => Decision::Refuse(fault),
@@ -111,12 +110,12 @@ fn judge_assignment(heads: &[u16], bytes: &[u8], count: u16, m: &[u8]) -> Decisi
     }
 }
 
-fn judge_update(heads: &[u16], bytes: &[u8], count: u16, c: usize, m: &[u8]) -> Decision
+fn judge_update(heads: &[u16], bytes: &[u8], count: u16, m: &[u8]) -> Decision
     requires { ⌜ soundTable maxEntries (lent heads bytes count) ≡ true ⌝ }
     ensures { λ r.
-        ⌜ Decides count (now (m .entry)) r
+        ⌜ ((c : ℕ) → Decides count c (now (m .entry)) r
         (judgeUpdate c (entriesOf (lent (heads .entry) (bytes .entry) count)) (now (m .entry))
-        (parseHeldUpdate (entriesOf (lent (heads .entry) (bytes .entry) count)) (now (m .entry)))) ⌝ }
+        (parseHeldUpdate (entriesOf (lent (heads .entry) (bytes .entry) count)) (now (m .entry))))) ⌝ }
 {
     match table::read_held_update(heads, bytes, count, m) {
         UpdateRead::Refused(fault) => Decision::Refuse(fault),
@@ -134,28 +133,26 @@ fn judge_update(heads: &[u16], bytes: &[u8], count: u16, c: usize, m: &[u8]) -> 
                 id: id,
                 number: number,
                 value_length: value_length,
-                sender: c,
             }
         }
     }
 }
 
 // A message of a connection that is open or greeted.
-fn judge_message(heads: &[u16], bytes: &[u8], count: u16, c: usize, mark: u8, m: &[u8]) -> Decision
-    requires sound { ⌜ soundTable maxEntries (lent heads bytes count) ≡ true ⌝ }
-    requires connection { ⌜ c < connections ⌝ }
+fn judge_message(heads: &[u16], bytes: &[u8], count: u16, mark: u8, m: &[u8]) -> Decision
+    requires { ⌜ soundTable maxEntries (lent heads bytes count) ≡ true ⌝ }
     ensures { λ r.
-        ⌜ Decides count (now (m .entry)) r
-        (judgeMessage maxEntries (entriesOf (lent (heads .entry) (bytes .entry) count)) c mark (now (m .entry))) ⌝ }
+        ⌜ ((c : ℕ) → c < connections → Decides count c (now (m .entry)) r
+        (judgeMessage maxEntries (entriesOf (lent (heads .entry) (bytes .entry) count)) c mark (now (m .entry)))) ⌝ }
 {
-    let Octet::There(kind) = reader::kind(m) else {
+    let Octet::There(kind) = reader::octet_at(m, 0) else {
         return Decision::Refuse(fault_at(INCOMPLETE, 0));
     };
     if kind == message::KEEP_ALIVE {
         return Decision::Ignore(KIND_SIZE);
     }
     if kind == message::HELLO {
-        return judge_hello(c, mark, m);
+        return judge_hello(mark, m);
     }
     if kind == message::ASSIGNMENT {
         if mark != soundness::GREETED {
@@ -167,7 +164,7 @@ fn judge_message(heads: &[u16], bytes: &[u8], count: u16, c: usize, mark: u8, m:
         if mark != soundness::GREETED {
             return Decision::Refuse(fault_at(WRONG_STATE, 0));
         }
-        return judge_update(heads, bytes, count, c, m);
+        return judge_update(heads, bytes, count, m);
     }
     Decision::Refuse(fault_at(UNKNOWN_KIND, 0))
 }
@@ -184,7 +181,7 @@ pub fn judge_client_message(
     requires sound { ⌜ soundTable maxEntries (lent heads bytes count) ≡ true ⌝ }
     requires marks { ⌜ connections ≤ length (now marks) ⌝ }
     ensures { λ r.
-        ⌜ Decides count (now (m .entry)) r
+        ⌜ Decides count c (now (m .entry)) r
         (judge maxEntries (entriesOf (lent (heads .entry) (bytes .entry) count)) (now (marks .entry))
         (clientMessage c (now (m .entry)))) ⌝ }
 {
@@ -195,7 +192,7 @@ pub fn judge_client_message(
     if mark == soundness::CLOSED {
         return Decision::Refuse(fault_at(WRONG_STATE, 0));
     }
-    judge_message(heads, bytes, count, c, mark, m)
+    judge_message(heads, bytes, count, mark, m)
 }
 
 // ---- opening and leaving

@@ -18,7 +18,7 @@ ghost use Rattle.field.specs.Answer.{done};
 ghost use Rattle.table.specs.Table.{TableMemory, Holds, lent, maxEntries};
 ghost use Rattle.message.specs.Layout.{maxNameLength};
 ghost use Rattle.message.specs.Lent.{lentEntry};
-ghost use Rattle.answer.specs.Recipients.{Recipients, recipientSet};
+ghost use Rattle.answer.specs.Recipients.{Recipients, allGreeted, recipientSet};
 ghost use Rattle.soundness.specs.Sound.{soundTable, connections};
 ghost use Rattle.protocol.specs.Judge.{acceptHello, unsupportedRevision, storeNew, storeUpdate};
 ghost use Rattle.protocol.specs.Step.{execute};
@@ -101,40 +101,40 @@ fn turn_away(marks: &mut [u8], c: usize, out: &mut [u8]) -> Answer
 
 // ---- entries
 
-// A new entry with the next ID, to all greeted connections.
+// A new entry with the next ID and the first number, to all greeted connections.
 pub fn store_new(
     heads: &mut [u16],
     bytes: &mut [u8],
     count: &mut u16,
-    marks: &[u8],
     name: &[u8],
     type_code: u8,
     value: &[u8],
     taken: usize,
+    recipients: u16,
     out: &mut [u8],
 ) -> Answer
     requires sound { ⌜ soundTable maxEntries (lent heads bytes (now count)) ≡ true ⌝ }
-    requires room { ⌜ (now count < maxEntries) × (connections ≤ length (now marks)) ⌝ }
+    requires room { ⌜ now count < maxEntries ⌝ }
     requires lengths { ⌜ (length (now name) ≤ maxNameLength) × (length (now value) ≤ maxValueSize) ⌝ }
     ensures { λ r.
-        ⌜ answered r (lentServer (heads .exit) (bytes .exit) (now (count .exit)) (marks .entry)) (now (out .exit))
-        ≡ execute (lentServer (heads .entry) (bytes .entry) (now (count .entry)) (marks .entry)) (now (out .entry))
-        (storeNew (lentEntry (name .entry) «type_code» start (value .entry)) taken) ⌝ }
+        ⌜ ((marks : List ℕ) → recipients ≡ recipientSet allGreeted marks →
+        answered r (record { table = lent (heads .exit) (bytes .exit) (now (count .exit)); marks = marks }) (now (out .exit))
+        ≡ execute (record { table = lent (heads .entry) (bytes .entry) (now (count .entry)); marks = marks }) (now (out .entry))
+        (storeNew (lentEntry (name .entry) «type_code» start (value .entry)) taken)) ⌝ }
 {
     let id = *count;
     if out.len() < ASSIGNMENT_FIXED + name.len() + value.len() {
         return answer::refused(fault_at(OUTPUT_TOO_SHORT, 0));
     }
-    let number = SequenceNumber::START;
-    let recipients = answer::all_greeted(marks);
-    let sent = encoder::write_assignment(out, name, type_code, id, number, value);
+    let number = SequenceNumber::start();
+    let sent = encoder::write_assignment(out, name, type_code, id, number.0, value);
     table::store_entry(
         heads,
         bytes,
         id as usize,
         name,
         type_code as u16,
-        number,
+        number.0,
         value,
     );
     *count = id + 1;
@@ -170,29 +170,30 @@ pub fn store_update(
 
 // ---- a client's message
 
-// A decision on a client's message m.
+// A decision on a message m of connection c.
 pub fn perform(
     heads: &mut [u16],
     bytes: &mut [u8],
     count: &mut u16,
     marks: &mut [u8],
+    c: usize,
     m: &[u8],
     decision: Decision,
     out: &mut [u8],
 ) -> Answer
     requires sound { ⌜ soundTable maxEntries (lent heads bytes (now count)) ≡ true ⌝ }
     requires marks { ⌜ connections ≤ length (now marks) ⌝ }
-    requires performable { ⌜ Performable (now count) (now m) decision ⌝ }
+    requires performable { ⌜ Performable (now count) c (now m) decision ⌝ }
     ensures { λ r.
         ⌜ answered r (lentServer (heads .exit) (bytes .exit) (now (count .exit)) (marks .exit)) (now (out .exit))
         ≡ execute (lentServer (heads .entry) (bytes .entry) (now (count .entry)) (marks .entry)) (now (out .entry))
-        (verdictOf (now (m .entry)) decision) ⌝ }
+        (verdictOf c (now (m .entry)) decision) ⌝ }
 {
     match decision {
         Decision::Refuse(fault) => answer::refused(fault),
         Decision::Ignore(taken) => answer::ignored(taken),
-        Decision::AcceptHello(c) => greet(heads, bytes, *count, marks, c, out),
-        Decision::UnsupportedRevision(c) => turn_away(marks, c, out),
+        Decision::AcceptHello => greet(heads, bytes, *count, marks, c, out),
+        Decision::UnsupportedRevision => turn_away(marks, c, out),
         Decision::StoreNew {
             type_code,
             name_length,
@@ -203,15 +204,17 @@ pub fn perform(
             let taken = value_at + value_length;
             let name = &m[ASSIGNMENT_NAME_START..name_end];
             let value = &m[value_at..taken];
+            // the sender is not left out
+            let recipients = answer::other_greeted(marks, answer::NO_ONE);
             store_new(
                 heads,
                 bytes,
                 count,
-                marks,
                 name,
                 type_code,
                 value,
                 taken,
+                recipients,
                 out,
             )
         }
@@ -219,11 +222,10 @@ pub fn perform(
             id,
             number,
             value_length,
-            sender,
         } => {
             let taken = UPDATE_VALUE_START + value_length;
             let value = &m[UPDATE_VALUE_START..taken];
-            let recipients = answer::other_greeted(marks, sender);
+            let recipients = answer::other_greeted(marks, c);
             store_update(heads, bytes, id, number, value, taken, recipients, out)
         }
     }

@@ -8,15 +8,15 @@ use judge::WriteDecision;
 use scalar::Scalar;
 ghost use mathlib.Core.Path.{_≡_};
 ghost use mathlib.Core.Bool.{_&&_};
-ghost use Prim.Native.Nat.{_≤_};
-ghost use mathlib.Core.List.{[]};
+ghost use Prim.Native.Nat.{ℕ, _≤_};
+ghost use mathlib.Core.List.{List, []};
 ghost use lib.ListN.{length, replicate};
 ghost use Rattle.field.specs.Answer.{unsound};
 ghost use Rattle.field.specs.Octets.{overwriteAt};
 ghost use Rattle.table.specs.Table.{lent, maxEntries};
 ghost use Rattle.soundness.specs.Sound.{soundTable, soundMarks, closed, connections};
-ghost use Rattle.protocol.specs.Judge.{openConnection, leave, clientMessage, localCreate, localWrite};
-ghost use Rattle.protocol.specs.Step.{callStep, freshStart, readScalar};
+ghost use Rattle.protocol.specs.Judge.{openConnection, leave, clientMessage, localCreate, localWrite, readEntry};
+ghost use Rattle.protocol.specs.Step.{callStep, freshStart, readScalar, numberOf};
 ghost use Rattle.protocol.specs.Lent.{lentServer, lentCall, answered, startOf};
 
 // What a call answers where its memory is not sound.
@@ -26,7 +26,7 @@ fn unsound() -> Answer
     answer::refused(fault_at(UNSOUND, 0))
 }
 
-// Whether the table and the marks are sound. Heads and bytes go on as parts of themselves ("A slice goes on as a part of itself").
+// Whether the table and the marks are sound. Heads and bytes go on as parts of themselves (docs/DECISIONS.md, Speed).
 fn is_sound(heads: &[u16], bytes: &[u8], count: u16, marks: &[u8]) -> bool
     ensures { λ r.
         ⌜ r ≡ (soundTable maxEntries (lent (heads .entry) (bytes .entry) count) && soundMarks (now (marks .entry))) ⌝ }
@@ -127,7 +127,7 @@ pub fn receive(
         return unsound();
     }
     let decision = judge::judge_client_message(heads, bytes, *count, marks, c, m);
-    perform::perform(heads, bytes, count, marks, m, decision, out)
+    perform::perform(heads, bytes, count, marks, c, m, decision, out)
 }
 
 // Local create: an entry of the plant's own code.
@@ -151,17 +151,20 @@ pub fn create(
     }
     match judge::judge_create(heads, bytes, *count, name, type_code, value) {
         CreateDecision::Refuse(fault) => answer::refused(fault),
-        CreateDecision::Store => perform::store_new(
-            heads,
-            bytes,
-            count,
-            marks,
-            name,
-            type_code,
-            value,
-            0,
-            out,
-        ),
+        CreateDecision::Store => {
+            let recipients = answer::other_greeted(marks, answer::NO_ONE);
+            perform::store_new(
+                heads,
+                bytes,
+                count,
+                name,
+                type_code,
+                value,
+                0,
+                recipients,
+                out,
+            )
+        }
     }
 }
 
@@ -187,15 +190,19 @@ pub fn write(
         WriteDecision::Refuse(fault) => answer::refused(fault),
         WriteDecision::Ignore => answer::ignored(0),
         WriteDecision::Store(number) => {
-            let recipients = answer::all_greeted(marks);
+            let recipients = answer::other_greeted(marks, answer::NO_ONE);
             perform::store_update(heads, bytes, id, number, value, 0, recipients, out)
         }
     }
 }
 
-// Reading an entry.
+// Reading an entry. No marks are lent; the number is the step's, whatever the marks are.
 pub fn read(heads: &[u16], bytes: &[u8], count: u16, id: u16) -> Scalar
-    ensures { λ r. ⌜ r ≡ readScalar maxEntries (lent (heads .entry) (bytes .entry) count) id ⌝ }
+    ensures scalar { λ r. ⌜ r ≡ readScalar maxEntries (lent (heads .entry) (bytes .entry) count) id ⌝ }
+    ensures number { λ r.
+        ⌜ ((marks : List ℕ) → numberOf r
+        ≡ callStep maxEntries (record { table = lent (heads .entry) (bytes .entry) count; marks = marks })
+        (record { call = readEntry id; output = [] }) .number) ⌝ }
 {
     if !soundness::table_is_sound(heads, bytes, count) {
         return Scalar::Refused(UNSOUND);

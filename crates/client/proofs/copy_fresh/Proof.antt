@@ -1,5 +1,7 @@
 -- `copy_fresh` makes the fresh start of a copy: the two sizes decide as the definition does.
 use mathlib.Core.Path.{refl}
+use native.Mathlib.Omega.{arith}
+use lib.ListN.{length}
 use borrow.Author.Tests.{lt-leb, le-leb}
 use Rattle.field.specs.Choice.{pick}
 use Rattle.soundness.specs.Sound.{largeEnough}
@@ -28,14 +30,18 @@ returns-2 : tie.Need-returns-2
 unfolding copyFreshStart largeEnough pick
 returns-2 c =
     let t = c .before .before in
-    rw (c .refused2 .ensures, c .before .fault-at2 .ensures, le-leb _ _ (t .before .if1 .left), lt-leb _ _ (t .if2 .taken)) (refl, refl)
+    let bytes = t .before .before .before .before .args .bytes .now in
+    rw (c .refused2 .ensures, c .before .fault-at2 .ensures, le-leb _ _ (t .before .if1 .left), lt-leb 20480 (length bytes) (omega (arith, t .if2 .taken))) (refl, refl)
 
 done-requires : tie.Need-done-requires
 done-requires c κs = search needs
 
 returns-3 : tie.Need-returns-3
 unfolding copyFreshStart largeEnough pick
-returns-3 c = rw (c .done .ensures, le-leb _ _ (c .before .before .if1 .left), le-leb _ _ (c .before .if2 .left)) (refl, refl)
+returns-3 c =
+    let t = c .before in
+    let bytes = t .before .before .before .before .args .bytes .now in
+    rw (c .done .ensures, le-leb _ _ (t .before .if1 .left), le-leb 20480 (length bytes) (omega (arith, t .if2 .left))) (refl, refl)
 
 pub copy-fresh-spec : {M : Type 1} → statement M
 copy-fresh-spec =

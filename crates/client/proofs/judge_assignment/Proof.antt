@@ -90,7 +90,7 @@ part-find-name-end c = omega (arith, fits (c .before) .0)
 
 find-name-requires : tie.Need-find-name-requires
 unfolding to-start
-find-name-requires c κs = let s = to-start (c .before .before) in sound-named maxEntries (memory s) (s .pre .0)
+find-name-requires c κs = let s = to-start (c .before .before) in sound-named maxEntries (memory s) (s .pre)
 
 fault-at-requires : tie.Need-fault-at-requires
 fault-at-requires c κs = search needs

@@ -14,15 +14,15 @@ use borrow.Author.Needs.{needs}
 use Rattle.client.proofs.judge_copy.Statement.{statement}
 use Rattle.client.proofs.judge_copy.Tie as tie
 
-to-start : tie.After-kind2 → tie.Start
+to-start : tie.After-kind → tie.Start
 to-start c = c .before .before .before .before .before .before
 
-kind-there : (c : tie.After-kind2) → (kindSize ≤ length (to-start c .args .m .now)) × (c .kind2 .given .0 .0 ≡ getD (to-start c .args .m .now) 0 0)
+kind-there : (c : tie.After-kind) → (kindSize ≤ length (to-start c .args .m .now)) × (c .kind .given .0 .0 ≡ getD (to-start c .args .m .now) 0 0)
 unfolding to-start
-kind-there c = octet-there (to-start c .args .m .now) 0 (c .kind2 .given .0 .0) (sym (c .kind2 .given .1) ∙ c .before .before .kind .ensures)
+kind-there c = octet-there (to-start c .args .m .now) 0 (c .kind .given .0 .0) (sym (c .kind .given .1) ∙ c .before .before .octet-at .ensures)
 
-kind-requires : tie.Need-kind-requires
-kind-requires c κs = search needs
+octet-at-requires : tie.Need-octet-at-requires
+octet-at-requires c κs = search needs
 
 enum-known-kind : tie.Need-enum-known-kind
 enum-known-kind c = search needs
@@ -39,7 +39,7 @@ returns c =
     let t = c .before in
     let k = t .before .before in
     let m = k .before .before .before .before .args .m .now in
-    let l = octet-missing m 0 (sym (t .enum-told .given .1) ∙ k .kind .ensures) in
+    let l = octet-missing m 0 (sym (t .enum-told .given .1) ∙ k .octet-at .ensures) in
     rw (c .fault-at .ensures, lt-leb kindSize (length m) (omega arith)) (record { verdict = refl; copyable = tt })
 
 returns-2 : tie.Need-returns-2
@@ -65,10 +65,7 @@ returns-4 c =
     rw (le-leb kindSize _ (h .0), ← (h .1), ne-eqb _ _ (t .before .before .if1 .left), ne-eqb _ _ (t .before .if2 .left), eq-eqb _ _ (t .if3 .taken)) (c .judge-unsupported .ensures _)
 
 judge-assignment-requires : tie.Need-judge-assignment-requires
-unfolding to-start
-judge-assignment-requires c κs =
-    let k = c .before .before .before .before .before in
-    (to-start k .pre, kind-there k .0)
+judge-assignment-requires c κs = search needs
 
 returns-5 : tie.Need-returns-5
 unfolding judgeCopy judgeCopyKind pick to-start
@@ -106,7 +103,7 @@ pub judge-copy-spec : {M : Type 1} → statement M
 judge-copy-spec =
     tie.close
     (tie.spec
-    kind-requires
+    octet-at-requires
     enum-known-kind
     enum-told
     fault-at-requires

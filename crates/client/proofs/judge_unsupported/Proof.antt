@@ -10,8 +10,8 @@ use borrow.Author.Needs.{needs}
 use Rattle.client.proofs.judge_unsupported.Statement.{statement}
 use Rattle.client.proofs.judge_unsupported.Tie as tie
 
-behind-kind-requires : tie.Need-behind-kind-requires
-behind-kind-requires c κs = search needs
+number-at-requires : tie.Need-number-at-requires
+number-at-requires c κs = search needs
 
 enum-known-revision : tie.Need-enum-known-revision
 enum-known-revision c = search needs
@@ -28,7 +28,7 @@ returns c = λ count.
     let t = c .before in
     let r = t .before .before in
     let m = r .before .before .args .m .now in
-    let l = number-missing m kindSize (sym (t .enum-told .given .1) ∙ r .behind-kind .ensures) in
+    let l = number-missing m kindSize (sym (t .enum-told .given .1) ∙ r .number-at .ensures) in
     rw (c .fault-at .ensures, lt-leb revisionLength (length m) (omega arith)) (record { verdict = refl; copyable = tt })
 
 returns-2 : tie.Need-returns-2
@@ -37,14 +37,14 @@ returns-2 c = λ count.
     let v = c .before in
     let r = v .before .before in
     let m = r .before .before .args .m .now in
-    let h = number-there m kindSize (v .revision .given .0 .0) (sym (v .revision .given .1) ∙ r .behind-kind .ensures) in
+    let h = number-there m kindSize (v .revision .given .0 .0) (sym (v .revision .given .1) ∙ r .number-at .ensures) in
     rw (le-leb revisionLength (length m) (h .0), ← (h .1)) (record { verdict = refl; copyable = tt })
 
 pub judge-unsupported-spec : {M : Type 1} → statement M
 judge-unsupported-spec =
     tie.close
     (tie.spec
-    behind-kind-requires
+    number-at-requires
     enum-known-revision
     enum-told
     fault-at-requires

@@ -90,7 +90,7 @@ part-find-name-end c = omega (arith, fits (c .before) .0)
 
 find-name-requires : tie.Need-find-name-requires
 unfolding to-start
-find-name-requires c κs = let s = to-start (c .before .before) in sound-named maxEntries (memory s) (s .pre .0)
+find-name-requires c κs = let s = to-start (c .before .before) in sound-named maxEntries (memory s) (s .pre)
 
 add-taken : tie.Need-add-taken
 add-taken c = omega (arith, fits (c .before .before .before .before) .1)
@@ -100,33 +100,33 @@ add-taken-2 c = omega (arith, fits (c .before .before .before .before) .1, fits 
 
 returns : tie.Need-returns
 unfolding judgeAssignment to-start to-name pick
-returns c =
+returns c = λ sender.
     let f = c .before in
     let n = to-name f in
-    rw (← (n .before .before .read-assignment .ensures), n .name-length .given .1, name-held f (c .if1 .taken)) (decides-ignored _ _ _)
+    rw (← (n .before .before .read-assignment .ensures), n .name-length .given .1, name-held f (c .if1 .taken)) (decides-ignored _ _ _ _)
 
 fault-at-requires : tie.Need-fault-at-requires
 fault-at-requires c κs = search needs
 
 returns-2 : tie.Need-returns-2
 unfolding judgeAssignment to-start to-name pick
-returns-2 c =
+returns-2 c = λ sender.
     let t = c .before in
     let f = t .before .before in
     let n = to-name f in
     let s = to-start n in
     rw (c .fault-at .ensures, ← (n .before .before .read-assignment .ensures), n .name-length .given .1, name-new f (t .before .if1 .left), length-entries (memory s), le-ltb (s .args .count) maxEntries (t .if2 .taken))
-    (decides-refusal _ _ _)
+    (decides-refusal _ _ _ _)
 
 returns-3 : tie.Need-returns-3
 unfolding judgeAssignment to-start pick
-returns-3 c =
+returns-3 c = λ sender.
     let n = c .before in
-    rw (← (n .before .before .read-assignment .ensures), n .fault .given .1) (decides-refusal _ _ _)
+    rw (← (n .before .before .read-assignment .ensures), n .fault .given .1) (decides-refusal _ _ _ _)
 
 returns-4 : tie.Need-returns-4
 unfolding judgeAssignment to-start to-name pick
-returns-4 c =
+returns-4 c = λ sender.
     let f = c .before .before in
     let n = to-name f in
     let s = to-start n in

@@ -87,7 +87,7 @@ returns-3 c = λ marks.
     let f = t .before in
     let v = f .before in
     let s = to-start (to-named v) in
-    rw (c .fault-at .ensures, name-is (to-named v), value-is v, found-held (memory s) (s .args .name .now) (f .find-name .result) (f .find-name .ensures) (t .if1 .taken))
+    rw (c .fault-at .ensures, name-is (to-named v), value-is v, found-held (memory s) (s .args .name .now) (f .find-name .result) (f .find-name .ensures) (omega arith))
     (create-refusal _ _ _ _ _)
 
 fault-at-requires-2 : tie.Need-fault-at-requires-2
@@ -100,7 +100,7 @@ returns-4 c = λ marks.
     let f = t .before .before in
     let v = f .before in
     let s = to-start (to-named v) in
-    rw (c .fault-at2 .ensures, name-is (to-named v), value-is v, not-found (memory s) (s .args .name .now) (f .find-name .result) (f .find-name .ensures) (t .before .if1 .left), length-entries (memory s), le-ltb (s .args .count) maxEntries (t .if2 .taken))
+    rw (c .fault-at2 .ensures, name-is (to-named v), value-is v, not-found (memory s) (s .args .name .now) (f .find-name .result) (f .find-name .ensures) (omega arith), length-entries (memory s), le-ltb (s .args .count) maxEntries (t .if2 .taken))
     (create-refusal _ _ _ _ _)
 
 returns-5 : tie.Need-returns-5
@@ -111,7 +111,7 @@ returns-5 c = λ marks.
     let n = to-named v in
     let s = to-start n in
     let w = lone-taken-is (s .args .type-code) (s .args .value .now) (v .enum-told3 .given .0 .0) (value-is v) in
-    rw (name-is n, value-is v, not-found (memory s) (s .args .name .now) (f .find-name .result) (f .find-name .ensures) (c .before .if1 .left), length-entries (memory s), lt-ltb (s .args .count) maxEntries (c .if2 .left))
+    rw (name-is n, value-is v, not-found (memory s) (s .args .name .now) (f .find-name .result) (f .find-name .ensures) (omega arith), length-entries (memory s), lt-ltb (s .args .count) maxEntries (c .if2 .left))
     (record {
       verdict = refl;
       creatable = (c .if2 .left, name-taken (s .args .name .now) (n .enum-told .given .0 .0) (name-is n) .1, omega (arith, w .0, w .1));

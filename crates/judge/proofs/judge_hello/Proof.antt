@@ -21,17 +21,17 @@ revision-there : (c : tie.After-revision)
     → (revisionLength ≤ length (to-start c .args .m .now)) × (c .revision .given .0 .0 ≡ decode16 (drop kindSize (to-start c .args .m .now)))
 unfolding to-start
 revision-there c =
-    number-there (to-start c .args .m .now) kindSize (c .revision .given .0 .0) (sym (c .revision .given .1) ∙ c .before .before .behind-kind .ensures)
+    number-there (to-start c .args .m .now) kindSize (c .revision .given .0 .0) (sym (c .revision .given .1) ∙ c .before .before .number-at .ensures)
 
 fault-at-requires : tie.Need-fault-at-requires
 fault-at-requires c κs = search needs
 
 returns : tie.Need-returns
 unfolding judgeHello pick
-returns c = λ count. rw (c .fault-at .ensures, ne-eqb _ _ (c .before .if1 .taken)) (decides-refusal count _ _)
+returns c = λ count sender below. rw (c .fault-at .ensures, ne-eqb _ _ (c .before .if1 .taken)) (decides-refusal _ _ _ _)
 
-behind-kind-requires : tie.Need-behind-kind-requires
-behind-kind-requires c κs = search needs
+number-at-requires : tie.Need-number-at-requires
+number-at-requires c κs = search needs
 
 enum-known-revision : tie.Need-enum-known-revision
 enum-known-revision c = search needs
@@ -44,28 +44,28 @@ fault-at-requires-2 c κs = search needs
 
 returns-2 : tie.Need-returns-2
 unfolding judgeHello pick
-returns-2 c = λ count.
+returns-2 c = λ count sender below.
     let t = c .before in
     let r = t .before .before in
     let m = r .before .before .before .args .m .now in
-    let l = number-missing m kindSize (sym (t .enum-told .given .1) ∙ r .behind-kind .ensures) in
-    rw (c .fault-at2 .ensures, eq-eqb _ _ (r .before .if1 .left), lt-leb revisionLength (length m) (omega arith)) (decides-refusal count _ _)
+    let l = number-missing m kindSize (sym (t .enum-told .given .1) ∙ r .number-at .ensures) in
+    rw (c .fault-at2 .ensures, eq-eqb _ _ (r .before .if1 .left), lt-leb revisionLength (length m) (omega arith)) (decides-refusal _ _ _ _)
 
 returns-3 : tie.Need-returns-3
 unfolding judgeHello pick to-start
-returns-3 c = λ count.
+returns-3 c = λ count sender below.
     let r = c .before .before in
     let h = revision-there r in
     rw (eq-eqb _ _ (r .before .before .before .if1 .left), le-leb revisionLength _ (h .0), ← (h .1), eq-eqb _ _ (c .if2 .taken))
-    (record { verdict = refl; performable = to-start r .pre })
+    (record { verdict = refl; performable = below })
 
 returns-4 : tie.Need-returns-4
 unfolding judgeHello pick to-start
-returns-4 c = λ count.
+returns-4 c = λ count sender below.
     let r = c .before .before in
     let h = revision-there r in
     rw (eq-eqb _ _ (r .before .before .before .if1 .left), le-leb revisionLength _ (h .0), ← (h .1), ne-eqb _ _ (c .if2 .left))
-    (record { verdict = refl; performable = to-start r .pre })
+    (record { verdict = refl; performable = below })
 
 pub judge-hello-spec : {M : Type 1} → statement M
 judge-hello-spec =
@@ -73,7 +73,7 @@ judge-hello-spec =
     (tie.spec
     fault-at-requires
     returns
-    behind-kind-requires
+    number-at-requires
     enum-known-revision
     enum-told
     fault-at-requires-2

@@ -79,20 +79,20 @@ add-taken c = omega (arith, fits (c .before .before .before .before) .2)
 
 returns : tie.Need-returns
 unfolding judgeUpdate to-start pick
-returns c =
+returns c = λ sender.
     let p = c .before in
     let i = p .before .before .before in
-    rw (← (i .before .before .read-held-update .ensures), i .id .given .1, ← (compared p), not-true (p .is-passed-by .result) (c .if1 .taken)) (decides-ignored _ _ _)
+    rw (← (i .before .before .read-held-update .ensures), i .id .given .1, ← (compared p), not-true (p .is-passed-by .result) (c .if1 .taken)) (decides-ignored _ _ _ _)
 
 returns-2 : tie.Need-returns-2
 unfolding judgeUpdate pick
-returns-2 c =
+returns-2 c = λ sender.
     let i = c .before in
-    rw (← (i .before .before .read-held-update .ensures), i .fault .given .1) (decides-refusal _ _ _)
+    rw (← (i .before .before .read-held-update .ensures), i .fault .given .1) (decides-refusal _ _ _ _)
 
 returns-3 : tie.Need-returns-3
 unfolding judgeUpdate to-start pick
-returns-3 c =
+returns-3 c = λ sender.
     let p = c .before in
     let i = p .before .before .before in
     rw (← (i .before .before .read-held-update .ensures), i .id .given .1, ← (compared p), not-false (p .is-passed-by .result) (c .if1 .left))

@@ -1,4 +1,5 @@
 -- `perform` does what the verdict does, case by case: what each case relies on is `Performable`.
+use mathlib.Core.Path.{_≡_, _∙_}
 use Prim.Native.Nat.{_+_, _-_, _≤_, _<_}
 use native.Mathlib.Nat.{add-sub-cancel-left}
 use native.Mathlib.Omega.{arith}
@@ -7,11 +8,13 @@ use Rattle.value.specs.Value.{maxValueSize}
 use Rattle.message.specs.Layout.{maxNameLength, assignmentNameStart, assignmentFixed, updateValueStart}
 use Rattle.message.specs.Reader.{assignmentLength, updateLength}
 use Rattle.table.specs.Table.{TableMemory, tableMemory, maxEntries}
-use Rattle.soundness.specs.Sound.{connections}
 use Rattle.table.proofs.SearchLaws.{holds-less}
 use Rattle.soundness.proofs.ReadableLaws.{sound-holds, sound-count}
 use Rattle.judge.proofs.DecisionLaws.{known-performable}
+use Rattle.judge.specs.declared.Decision.{Decision}
+use Rattle.judge.specs.Decision.{Performable}
 use Rattle.answer.specs.Recipients.{otherGreeted}
+use Rattle.answer.proofs.RecipientLaws.{others-all}
 use Rattle.protocol.specs.Step.{execute}
 use borrow.Author.Needs.{needs}
 use Rattle.perform.proofs.perform.Statement.{statement}
@@ -20,38 +23,28 @@ use Rattle.perform.proofs.perform.Tie as tie
 abbrev memory : tie.Start → TableMemory
 memory s = tableMemory (s .args .heads .now) (s .args .bytes .now) (s .args .count .now)
 
-hello-start : tie.After-decision3 → tie.Start
-hello-start c = c .before .before .before .before .before .before .before
+-- what performing relies on, for a decision that is known
+relied : (s : tie.Start) (d : Decision) → s .args .decision ≡ d → Performable (s .args .count .now) (s .args .c) (s .args .m .now) d
+relied s d e = known-performable (s .args .count .now) (s .args .c) (s .args .m .now) (s .args .decision) d e (s .pre .1 .1)
 
-hello-fits : (c : tie.After-decision3) → c .decision3 .given .0 .0 < connections
-unfolding hello-start
-hello-fits c = let s = hello-start c in known-performable (s .args .count .now) (s .args .m .now) (s .args .decision) _ (c .decision3 .given .1) (s .pre .1 .1)
-
-other-start : tie.After-decision4 → tie.Start
-other-start c = c .before .before .before .before .before .before .before
-
-other-fits : (c : tie.After-decision4) → c .decision4 .given .0 .0 < connections
-unfolding other-start
-other-fits c = let s = other-start c in known-performable (s .args .count .now) (s .args .m .now) (s .args .decision) _ (c .decision4 .given .1) (s .pre .1 .1)
-
-new-start : tie.After-decision5 → tie.Start
+new-start : tie.After-decision3 → tie.Start
 new-start c = c .before .before .before .before .before .before .before
 
-new-fits : (c : tie.After-decision5)
+new-fits : (c : tie.After-decision3)
     → (new-start c .args .count .now < maxEntries)
-    × (assignmentLength (c .decision5 .given .0 .1 .0) (c .decision5 .given .0 .1 .1 .0) ≤ length (new-start c .args .m .now))
-    × (c .decision5 .given .0 .1 .0 ≤ maxNameLength) × (c .decision5 .given .0 .1 .1 .0 ≤ maxValueSize)
+    × (assignmentLength (c .decision3 .given .0 .1 .0) (c .decision3 .given .0 .1 .1 .0) ≤ length (new-start c .args .m .now))
+    × (c .decision3 .given .0 .1 .0 ≤ maxNameLength) × (c .decision3 .given .0 .1 .1 .0 ≤ maxValueSize)
 unfolding new-start
-new-fits c = let s = new-start c in known-performable (s .args .count .now) (s .args .m .now) (s .args .decision) _ (c .decision5 .given .1) (s .pre .1 .1)
+new-fits c = relied (new-start c) _ (c .decision3 .given .1)
 
-update-start : tie.After-decision6 → tie.Start
+update-start : tie.After-decision4 → tie.Start
 update-start c = c .before .before .before .before .before .before .before
 
-update-fits : (c : tie.After-decision6)
-    → (c .decision6 .given .0 .0 < update-start c .args .count .now)
-    × (updateLength (c .decision6 .given .0 .1 .1 .0) ≤ length (update-start c .args .m .now)) × (c .decision6 .given .0 .1 .1 .0 ≤ maxValueSize)
+update-fits : (c : tie.After-decision4)
+    → (c .decision4 .given .0 .0 < update-start c .args .count .now)
+    × (updateLength (c .decision4 .given .0 .1 .1 .0) ≤ length (update-start c .args .m .now)) × (c .decision4 .given .0 .1 .1 .0 ≤ maxValueSize)
 unfolding update-start
-update-fits c = let s = update-start c in known-performable (s .args .count .now) (s .args .m .now) (s .args .decision) _ (c .decision6 .given .1) (s .pre .1 .1)
+update-fits c = relied (update-start c) _ (c .decision4 .given .1)
 
 enum-known-decision : tie.Need-enum-known-decision
 enum-known-decision c = search needs
@@ -65,27 +58,26 @@ enum-known-decision-2 c = search needs
 ignored-requires : tie.Need-ignored-requires
 ignored-requires c κs = search needs
 
-enum-known-decision-3 : tie.Need-enum-known-decision-3
-enum-known-decision-3 c = search needs
+enum-told : tie.Need-enum-told
+enum-told c = search needs
 
 greet-requires : tie.Need-greet-requires
-unfolding hello-start
 greet-requires c κs =
-    let t = c .before .before .before .before .before .before in
-    let s = hello-start t in
-    ((hello-fits t, s .pre .0), s .pre .1 .0)
+    let t = c .before .before .before .before .before in
+    let s = t .before .before .before .before .before .before .before in
+    ((relied s _ (t .enum-told .given .1), s .pre .0), s .pre .1 .0)
 
-enum-known-decision-4 : tie.Need-enum-known-decision-4
-enum-known-decision-4 c = search needs
+enum-told-2 : tie.Need-enum-told-2
+enum-told-2 c = search needs
 
 turn-away-requires : tie.Need-turn-away-requires
-unfolding other-start
 turn-away-requires c κs =
-    let t = c .before .before .before in
-    (other-fits t, other-start t .pre .1 .0)
+    let t = c .before .before in
+    let s = t .before .before .before .before .before .before .before in
+    (relied s _ (t .enum-told2 .given .1), s .pre .1 .0)
 
-enum-known-decision-5 : tie.Need-enum-known-decision-5
-enum-known-decision-5 c = search needs
+enum-known-decision-3 : tie.Need-enum-known-decision-3
+enum-known-decision-3 c = search needs
 
 add-name-end : tie.Need-add-name-end
 add-name-end c = omega (arith, new-fits (c .before) .2)
@@ -116,17 +108,20 @@ part-value-end : tie.Need-part-value-end
 unfolding new-start
 part-value-end c = omega (arith, new-fits (c .before .before) .1)
 
+other-greeted-requires : tie.Need-other-greeted-requires
+other-greeted-requires c κs = search needs
+
 store-new-requires : tie.Need-store-new-requires
 unfolding new-start
 store-new-requires c κs =
-    let d = c .before .before .before .before .before .before .before .before in
+    let d = c .before .before .before .before .before .before .before .before .before in
     let s = new-start d in
     let h = new-fits d in
-    let n = d .decision5 .given .0 .1 .0 in
-    let v = d .decision5 .given .0 .1 .1 .0 in (
+    let n = d .decision3 .given .0 .1 .0 in
+    let v = d .decision3 .given .0 .1 .1 .0 in (
       s .pre .0,
       (
-        (h .0, s .pre .1 .0),
+        h .0,
         (
           omega (arith, h .2, length-take (assignmentNameStart + n - assignmentNameStart) (drop assignmentNameStart (s .args .m .now))),
           omega (arith, h .3, length-take (assignmentFixed + n + v - (assignmentFixed + n)) (drop (assignmentFixed + n) (s .args .m .now))),
@@ -134,8 +129,8 @@ store-new-requires c κs =
       ),
     )
 
-enum-known-decision-6 : tie.Need-enum-known-decision-6
-enum-known-decision-6 c = search needs
+enum-known-decision-4 : tie.Need-enum-known-decision-4
+enum-known-decision-4 c = search needs
 
 add-taken-2 : tie.Need-add-taken-2
 add-taken-2 c = omega (arith, update-fits (c .before) .2)
@@ -150,8 +145,8 @@ part-value-end-2 : tie.Need-part-value-end-2
 unfolding update-start
 part-value-end-2 c = omega (arith, update-fits (c .before) .1)
 
-other-greeted-requires : tie.Need-other-greeted-requires
-other-greeted-requires c κs = search needs
+other-greeted-requires-2 : tie.Need-other-greeted-requires-2
+other-greeted-requires-2 c κs = search needs
 
 store-update-requires : tie.Need-store-update-requires
 unfolding update-start
@@ -160,8 +155,8 @@ store-update-requires c κs =
     let s = update-start d in
     let h = update-fits d in
     let b = sound-count maxEntries (memory s) (s .pre .0) in (
-      holds-less (d .decision6 .given .0 .0 + 1) (omega (arith, h .0, b)) (sound-holds maxEntries (memory s) (s .pre .0)),
-      omega (arith, h .2, length-take (updateValueStart + d .decision6 .given .0 .1 .1 .0 - updateValueStart) (drop updateValueStart (s .args .m .now))),
+      holds-less (d .decision4 .given .0 .0 + 1) (omega (arith, h .0, b)) (sound-holds maxEntries (memory s) (s .pre .0)),
+      omega (arith, h .2, length-take (updateValueStart + d .decision4 .given .0 .1 .1 .0 - updateValueStart) (drop updateValueStart (s .args .m .now))),
     )
 
 returns : tie.Need-returns
@@ -187,7 +182,7 @@ same-length-4 c = search needs
 returns-3 : tie.Need-returns-3
 returns-3 c =
     let k = c .before .before .before .before in
-    rw (k .before .before .before .before .before .before .before .decision3 .given .1) (k .greet .ensures)
+    rw (k .before .before .before .before .before .before .enum-told .given .1) (k .greet .ensures)
 
 same-length-5 : tie.Need-same-length-5
 same-length-5 c = search needs
@@ -198,7 +193,7 @@ same-length-6 c = search needs
 returns-4 : tie.Need-returns-4
 returns-4 c =
     let k = c .before .before .before .before in
-    rw (k .before .before .before .before .decision4 .given .1) (k .turn-away .ensures _)
+    rw (k .before .before .before .enum-told2 .given .1) (k .turn-away .ensures _)
 
 same-length-7 : tie.Need-same-length-7
 same-length-7 c = search needs
@@ -213,12 +208,16 @@ same-length-10 : tie.Need-same-length-10
 same-length-10 c = search needs
 
 returns-5 : tie.Need-returns-5
+unfolding new-start
 returns-5 c =
     let k = c .before .before .before .before .before .before in
-    let d = k .before .before .before .before .before .before .before .before .before in
-    let n = d .decision5 .given .0 .1 .0 in
-    rw (d .decision5 .given .1)
-    (rw (add-sub-cancel-left assignmentNameStart n, add-sub-cancel-left (assignmentFixed + n) (d .decision5 .given .0 .1 .1 .0)) at (k .store-new .ensures))
+    let o = k .before .before .before .before .before in
+    let d = o .before .before .before .before .before in
+    let n = d .decision3 .given .0 .1 .0 in
+    let marks = new-start d .args .marks .now in
+    rw (d .decision3 .given .1)
+    (rw (add-sub-cancel-left assignmentNameStart n, add-sub-cancel-left (assignmentFixed + n) (d .decision3 .given .0 .1 .1 .0)) at
+    (k .store-new .ensures marks (o .other-greeted .ensures ∙ others-all marks)))
 
 same-length-11 : tie.Need-same-length-11
 same-length-11 c = search needs
@@ -238,10 +237,10 @@ returns-6 c =
     let k = c .before .before .before .before .before .before in
     let o = k .before .before .before .before in
     let d = o .before .before .before .before in
-    let s = update-start d in
-    rw (d .decision6 .given .1)
-    (rw (add-sub-cancel-left updateValueStart (d .decision6 .given .0 .1 .1 .0)) at
-    (k .store-update .ensures (s .args .count .now) (s .args .marks .now) (otherGreeted (d .decision6 .given .0 .1 .1 .1 .0)) (o .other-greeted .ensures)))
+    let a = update-start d .args in
+    rw (d .decision4 .given .1)
+    (rw (add-sub-cancel-left updateValueStart (d .decision4 .given .0 .1 .1 .0)) at
+    (k .store-update .ensures (a .count .now) (a .marks .now) (otherGreeted (a .c)) (o .other-greeted2 .ensures)))
 
 pub perform-spec : {M : Type 1} → statement M
 perform-spec =
@@ -251,11 +250,11 @@ perform-spec =
     refused-requires
     enum-known-decision-2
     ignored-requires
-    enum-known-decision-3
+    enum-told
     greet-requires
-    enum-known-decision-4
+    enum-told-2
     turn-away-requires
-    enum-known-decision-5
+    enum-known-decision-3
     add-name-end
     add-value-at
     add-taken
@@ -265,13 +264,14 @@ perform-spec =
     sub-value
     part-value-start
     part-value-end
+    other-greeted-requires
     store-new-requires
-    enum-known-decision-6
+    enum-known-decision-4
     add-taken-2
     sub-value-2
     part-value-start-2
     part-value-end-2
-    other-greeted-requires
+    other-greeted-requires-2
     store-update-requires
     returns
     returns-2

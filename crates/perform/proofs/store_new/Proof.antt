@@ -35,22 +35,22 @@ refused-requires c κs = search needs
 
 returns : tie.Need-returns
 unfolding execute pick
-returns c =
+returns c = λ marks h.
     let t = c .before .before in
-    let s = t .before .before .before .before .before .before .before .before in
+    let s = t .before .before .before .before .before .before .before in
     let id = s .args .count .now in
     rw (c .refused .ensures, c .before .fault-at .ensures, lt-leb (length (assignmentBytes id (new s))) (length (s .args .out .now)) (omega (arith, t .if1 .taken, length-assignment id (new s))))
 
-all-greeted-requires : tie.Need-all-greeted-requires
-all-greeted-requires c κs = search needs
+start-requires : tie.Need-start-requires
+start-requires c κs = search needs
 
 write-assignment-requires : tie.Need-write-assignment-requires
 write-assignment-requires c κs = search needs
 
 store-entry-requires : tie.Need-store-entry-requires
 store-entry-requires c κs =
-    let s = c .before .before .before .before .before .before .before .before .before .before .before .before .before .before .before in
-    (holds-less (s .args .count .now + 1) (omega (arith, s .pre .1 .0 .0)) (sound-holds maxEntries (memory s) (s .pre .0)), s .pre .1 .1)
+    let s = c .before .before .before .before .before .before .before .before .before .before .before .before .before .before in
+    (holds-less (s .args .count .now + 1) (omega (arith, s .pre .1 .0)) (sound-holds maxEntries (memory s) (s .pre .0)), s .pre .1 .1)
 
 add-count : tie.Need-add-count
 add-count c = search needs
@@ -69,14 +69,14 @@ same-length-3 c = search needs
 
 returns-2 : tie.Need-returns-2
 unfolding execute storeEntry pick
-returns-2 c =
+returns-2 c = λ marks h.
     let w = c .before .before .before .before .before in
     let u = w .before .before .before .before .before in
     let g = u .before .before in
     let e = g .before in
-    let s = e .before .before .before .before .before .before .before .before in
+    let s = e .before .before .before .before .before .before .before in
     let id = s .args .count .now in
-    rw (c .done .ensures, w .store-entry .ensures .0, w .store-entry .ensures .1, u .write-assignment .ensures .0, u .write-assignment .ensures .1, g .all-greeted .ensures, le-leb (length (assignmentBytes id (new s))) (length (s .args .out .now)) (omega (arith, e .if1 .left, length-assignment id (new s))))
+    rw (c .done .ensures, w .store-entry .ensures .0, w .store-entry .ensures .1, u .write-assignment .ensures .0, u .write-assignment .ensures .1, g .start .ensures, h, le-leb (length (assignmentBytes id (new s))) (length (s .args .out .now)) (omega (arith, e .if1 .left, length-assignment id (new s))))
 
 pub store-new-spec : {M : Type 1} → statement M
 store-new-spec =
@@ -87,7 +87,7 @@ store-new-spec =
     fault-at-requires
     refused-requires
     returns
-    all-greeted-requires
+    start-requires
     write-assignment-requires
     store-entry-requires
     add-count

@@ -1,21 +1,16 @@
 -- `create` is the step of a local create: soundness decides, then the verdict is performed.
 use mathlib.Core.Path.{_≡_, sym, ap, _∙_}
-use mathlib.Core.Bool.{true, _&&_}
-use Prim.Native.Nat.{_≤_}
-use lib.ListN.{length}
-use borrow.Author.Tests.{not-true, not-false}
+use borrow.Author.Tests.{not-true}
+use Rattle.answer.proofs.RecipientLaws.{others-all}
 use Rattle.field.specs.Choice.{pick}
-use Rattle.table.specs.Table.{TableMemory, tableMemory, maxEntries}
-use Rattle.soundness.specs.Sound.{connections, soundTable, soundMarks}
-use Rattle.soundness.proofs.ReadableLaws.{table-sound, sixteen-marks}
-use Rattle.protocol.specs.Step.{callStep}
+use Rattle.table.specs.Table.{TableMemory, tableMemory, entriesOf, maxEntries}
+use Rattle.protocol.specs.Step.{execute, callStep}
 use Rattle.judge.specs.declared.CreateDecision.{CreateDecision}
 use Rattle.judge.specs.Decision.{createVerdict}
 use Rattle.judge.proofs.DecisionLaws.{known-creatable}
-use Rattle.table.specs.Table.{entriesOf}
 use Rattle.protocol.specs.Judge.{localCreate, judge}
-use Rattle.protocol.specs.Step.{execute}
 use borrow.Author.Needs.{needs}
+use Rattle.server.proofs.SoundCall.{SoundCall, sound-call}
 use Rattle.server.proofs.create.Statement.{statement}
 use Rattle.server.proofs.create.Tie as tie
 
@@ -25,13 +20,9 @@ memory s = tableMemory (s .args .heads .now) (s .args .bytes .now) (s .args .cou
 to-start : tie.Else1 → tie.Start
 to-start c = c .before .before .before .before .before .before .before .before .before .before .before
 
-both : (c : tie.Else1) → (soundTable maxEntries (memory (to-start c)) && soundMarks (to-start c .args .marks .now)) ≡ true
+sound : (c : tie.Else1) → SoundCall (memory (to-start c)) (to-start c .args .marks .now)
 unfolding to-start
-both c = sym (c .before .is-sound .ensures) ∙ not-false (c .before .is-sound .result) (c .if1 .left)
-
--- the table is sound, and there are 16 marks
-sound : (c : tie.Else1) → (soundTable maxEntries (memory (to-start c)) ≡ true) × (connections ≤ length (to-start c .args .marks .now))
-sound c = (table-sound (memory (to-start c)) (to-start c .args .marks .now) (both c), sixteen-marks (memory (to-start c)) (to-start c .args .marks .now) (both c))
+sound c = sound-call _ _ (c .before .is-sound .result) (c .before .is-sound .ensures) (c .if1 .left)
 
 to-sound : tie.After-judge-create → tie.Else1
 to-sound c = c .before .before .before
@@ -64,7 +55,7 @@ returns c = rw (c .unsound .ensures, ← (c .before .before .is-sound .ensures),
 
 judge-create-requires : tie.Need-judge-create-requires
 unfolding to-start
-judge-create-requires c κs = sound (c .before .before) .0
+judge-create-requires c κs = sound (c .before .before) .table-is
 
 enum-known-fault : tie.Need-enum-known-fault
 enum-known-fault c = search needs
@@ -75,15 +66,19 @@ refused-requires c κs = search needs
 enum-told : tie.Need-enum-told
 enum-told c = search needs
 
+other-greeted-requires : tie.Need-other-greeted-requires
+unfolding to-start to-sound
+other-greeted-requires c κs = sound (to-sound (c .before .before)) .marks-there
+
 store-new-requires : tie.Need-store-new-requires
 unfolding to-start to-sound
 store-new-requires c κs =
-    let t = c .before .before .before .before in
+    let t = c .before .before .before .before .before in
     let j = t .before .before in
     let s = to-start (to-sound j) in
     let h = sound (to-sound j) in
     let w = known-creatable (s .args .count .now) (s .args .name .now) (s .args .value .now) (j .judge-create .result) _ (t .enum-told .given .1) (j .judge-create .ensures (s .args .marks .now) .creatable) in
-    (h .0, ((w .0, h .1), (w .1, w .2)))
+    (h .table-is, (w .0, (w .1, w .2)))
 
 same-length-3 : tie.Need-same-length-3
 same-length-3 c = search needs
@@ -96,7 +91,7 @@ unfolding callStep execute pick to-start to-sound
 returns-2 c =
     let n = c .before .before in
     let j = n .before .before in
-    rw (c .refused .ensures, both (to-sound j), decided j _ (n .fault .given .1))
+    rw (c .refused .ensures, sound (to-sound j) .both, decided j _ (n .fault .given .1))
 
 same-length-5 : tie.Need-same-length-5
 same-length-5 c = search needs
@@ -111,9 +106,11 @@ returns-3 : tie.Need-returns-3
 unfolding callStep pick to-start to-sound
 returns-3 c =
     let k = c .before .before .before .before .before .before in
-    let t = k .before .before .before .before .before in
+    let g = k .before .before .before .before .before in
+    let t = g .before in
     let j = t .before .before in
-    rw (both (to-sound j), decided j _ (t .enum-told .given .1)) (k .store-new .ensures)
+    let s = to-start (to-sound j) in
+    rw (sound (to-sound j) .both, decided j _ (t .enum-told .given .1)) (k .store-new .ensures (s .args .marks .now) (g .other-greeted .ensures ∙ others-all (s .args .marks .now)))
 
 pub create-spec : {M : Type 1} → statement M
 create-spec =
@@ -128,6 +125,7 @@ create-spec =
     enum-known-fault
     refused-requires
     enum-told
+    other-greeted-requires
     store-new-requires
     same-length-3
     same-length-4

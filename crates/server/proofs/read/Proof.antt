@@ -1,12 +1,18 @@
 -- `read` answers the scalar of the held entry, which the accessors read.
 use mathlib.Core.Path.{_≡_, sym, _∙_}
 use mathlib.Core.Bool.{true}
+use mathlib.Core.List.{List, []}
+use Prim.Native.Nat.{ℕ}
+use native.Mathlib.Omega.{arith}
 use borrow.Author.Tests.{lt-ltb, le-ltb, not-true, not-false}
 use Rattle.field.specs.Choice.{pick}
 use Rattle.table.specs.Table.{TableMemory, tableMemory, entryAt, maxEntries}
 use Rattle.soundness.specs.Sound.{soundTable}
 use Rattle.soundness.proofs.ReadableLaws.{StoredEntry, stored-entry}
-use Rattle.protocol.specs.Step.{readScalar}
+use Rattle.scalar.specs.declared.Scalar.{Scalar}
+use Rattle.protocol.specs.Judge.{readEntry}
+use Rattle.protocol.specs.Step.{callStep, readScalar, numberOf}
+use Rattle.protocol.proofs.ReadLaws.{read-answered}
 use borrow.Author.Needs.{needs}
 use Rattle.server.proofs.read.Statement.{statement}
 use Rattle.server.proofs.read.Tie as tie
@@ -24,20 +30,26 @@ sound e = sym (e .before .before .table-is-sound .ensures) ∙ not-false (e .bef
 -- the ID is held
 stored : (e : tie.Else2) → StoredEntry (memory (to-start e)) (to-start e .args .id)
 unfolding to-start
-stored e = stored-entry maxEntries (memory (to-start e)) (to-start e .args .id) (sound e) (e .if2 .left)
+stored e = stored-entry maxEntries (memory (to-start e)) (to-start e .args .id) (sound e) (omega arith)
+
+-- the scalar's number is the step's, beside any marks
+with-number : (m : TableMemory) (id : ℕ) (r : Scalar) → r ≡ readScalar maxEntries m id
+    → (r ≡ readScalar maxEntries m id)
+    × ((marks : List ℕ) → numberOf r ≡ callStep maxEntries (record { table = m; marks = marks }) (record { call = readEntry id; output = [] }) .number)
+with-number m id r e = (e, λ marks. rw (e, read-answered (record { table = m; marks = marks }) [] maxEntries id))
 
 table-is-sound-requires : tie.Need-table-is-sound-requires
 table-is-sound-requires c κs = search needs
 
 returns : tie.Need-returns
 unfolding readScalar pick
-returns c = rw (← (c .before .table-is-sound .ensures), not-true (c .before .table-is-sound .result) (c .if1 .taken))
+returns c = with-number _ _ _ (rw (← (c .before .table-is-sound .ensures), not-true (c .before .table-is-sound .result) (c .if1 .taken)))
 
 returns-2 : tie.Need-returns-2
 unfolding readScalar pick
 returns-2 c =
     let t = c .before .before in
-    rw (← (t .table-is-sound .ensures), not-false (t .table-is-sound .result) (c .before .if1 .left), le-ltb _ _ (c .if2 .taken))
+    with-number _ _ _ (rw (← (t .table-is-sound .ensures), not-false (t .table-is-sound .result) (c .before .if1 .left), le-ltb _ _ (c .if2 .taken)))
 
 type-of-requires : tie.Need-type-of-requires
 unfolding to-start
@@ -57,7 +69,7 @@ returns-3 c =
     let v = c .before in
     let e = v .before .before in
     let a = to-start e .args in
-    rw (c .scalar-of .ensures, sound e, lt-ltb (a .id) (a .count) (e .if2 .left), v .value-of .ensures, v .before .type-of .ensures (a .bytes .now))
+    with-number _ _ _ (rw (c .scalar-of .ensures, sound e, lt-ltb (a .id) (a .count) (e .if2 .left), v .value-of .ensures, v .before .type-of .ensures (a .bytes .now)))
 
 pub read-spec : {M : Type 1} → statement M
 read-spec =

@@ -1,15 +1,10 @@
 -- `receive` is the step of a client's message: soundness decides, then the verdict is performed.
-use mathlib.Core.Path.{_≡_, sym, _∙_}
-use mathlib.Core.Bool.{true, _&&_}
-use Prim.Native.Nat.{_≤_}
-use lib.ListN.{length}
-use borrow.Author.Tests.{not-true, not-false}
+use borrow.Author.Tests.{not-true}
 use Rattle.field.specs.Choice.{pick}
-use Rattle.table.specs.Table.{TableMemory, tableMemory, maxEntries}
-use Rattle.soundness.specs.Sound.{connections, soundTable, soundMarks}
-use Rattle.soundness.proofs.ReadableLaws.{table-sound, sixteen-marks}
+use Rattle.table.specs.Table.{TableMemory, tableMemory}
 use Rattle.protocol.specs.Step.{callStep}
 use borrow.Author.Needs.{needs}
+use Rattle.server.proofs.SoundCall.{SoundCall, sound-call}
 use Rattle.server.proofs.receive.Statement.{statement}
 use Rattle.server.proofs.receive.Tie as tie
 
@@ -19,13 +14,9 @@ memory s = tableMemory (s .args .heads .now) (s .args .bytes .now) (s .args .cou
 to-start : tie.Else1 → tie.Start
 to-start c = c .before .before .before .before .before .before .before .before .before .before .before
 
-both : (c : tie.Else1) → (soundTable maxEntries (memory (to-start c)) && soundMarks (to-start c .args .marks .now)) ≡ true
+sound : (c : tie.Else1) → SoundCall (memory (to-start c)) (to-start c .args .marks .now)
 unfolding to-start
-both c = sym (c .before .is-sound .ensures) ∙ not-false (c .before .is-sound .result) (c .if1 .left)
-
--- the table is sound, and there are 16 marks
-sound : (c : tie.Else1) → (soundTable maxEntries (memory (to-start c)) ≡ true) × (connections ≤ length (to-start c .args .marks .now))
-sound c = (table-sound (memory (to-start c)) (to-start c .args .marks .now) (both c), sixteen-marks (memory (to-start c)) (to-start c .args .marks .now) (both c))
+sound c = sound-call _ _ (c .before .is-sound .result) (c .before .is-sound .ensures) (c .if1 .left)
 
 is-sound-requires : tie.Need-is-sound-requires
 is-sound-requires c κs = search needs
@@ -48,14 +39,14 @@ returns c = rw (c .unsound .ensures, ← (c .before .before .is-sound .ensures),
 
 judge-client-message-requires : tie.Need-judge-client-message-requires
 unfolding to-start
-judge-client-message-requires c κs = sound (c .before .before .before)
+judge-client-message-requires c κs = let h = sound (c .before .before .before) in (h .table-is, h .marks-there)
 
 perform-requires : tie.Need-perform-requires
 unfolding to-start
 perform-requires c κs =
     let j = c .before .before .before .before .before in
     let h = sound (j .before .before .before .before) in
-    (h .0, (h .1, j .judge-client-message .ensures .performable))
+    (h .table-is, (h .marks-there, j .judge-client-message .ensures .performable))
 
 same-length-4 : tie.Need-same-length-4
 same-length-4 c = search needs
@@ -75,7 +66,7 @@ returns-2 c =
     let k = c .before .before .before .before .before .before .before .before in
     let j = k .before .before .before .before .before .before in
     let e = j .before .before .before .before in
-    rw (both e, ← (j .judge-client-message .ensures .verdict)) (k .perform .ensures)
+    rw (sound e .both, ← (j .judge-client-message .ensures .verdict)) (k .perform .ensures)
 
 pub receive-spec : {M : Type 1} → statement M
 receive-spec =

@@ -1,25 +1,21 @@
 -- `write` is the step of a local write: soundness decides, then the verdict is performed.
 use mathlib.Core.Path.{_≡_, sym, ap, _∙_}
-use mathlib.Core.Bool.{true, _&&_}
-use Prim.Native.Nat.{_+_, _≤_}
-use lib.ListN.{length}
-use borrow.Author.Tests.{not-true, not-false}
+use Prim.Native.Nat.{_+_}
+use borrow.Author.Tests.{not-true}
 use Rattle.field.specs.Choice.{pick}
-use Rattle.table.specs.Table.{TableMemory, tableMemory, maxEntries}
-use Rattle.soundness.specs.Sound.{connections, soundTable, soundMarks}
-use Rattle.soundness.proofs.ReadableLaws.{table-sound, sixteen-marks}
-use Rattle.protocol.specs.Step.{callStep}
+use Rattle.table.specs.Table.{TableMemory, tableMemory, entriesOf, maxEntries}
+use Rattle.protocol.specs.Step.{execute, callStep}
 use native.Mathlib.Omega.{arith}
 use Rattle.answer.specs.Recipients.{allGreeted}
+use Rattle.answer.proofs.RecipientLaws.{others-all}
 use Rattle.judge.specs.declared.WriteDecision.{WriteDecision}
 use Rattle.judge.specs.Decision.{writeVerdict}
 use Rattle.judge.proofs.DecisionLaws.{known-writable}
 use Rattle.table.proofs.SearchLaws.{holds-less}
 use Rattle.soundness.proofs.ReadableLaws.{sound-count, sound-holds}
-use Rattle.table.specs.Table.{entriesOf}
 use Rattle.protocol.specs.Judge.{localWrite, judge}
-use Rattle.protocol.specs.Step.{execute}
 use borrow.Author.Needs.{needs}
+use Rattle.server.proofs.SoundCall.{SoundCall, sound-call}
 use Rattle.server.proofs.write.Statement.{statement}
 use Rattle.server.proofs.write.Tie as tie
 
@@ -29,13 +25,9 @@ memory s = tableMemory (s .args .heads .now) (s .args .bytes .now) (s .args .cou
 to-start : tie.Else1 → tie.Start
 to-start c = c .before .before .before .before .before .before .before .before .before
 
-both : (c : tie.Else1) → (soundTable maxEntries (memory (to-start c)) && soundMarks (to-start c .args .marks .now)) ≡ true
+sound : (c : tie.Else1) → SoundCall (memory (to-start c)) (to-start c .args .marks .now)
 unfolding to-start
-both c = sym (c .before .is-sound .ensures) ∙ not-false (c .before .is-sound .result) (c .if1 .left)
-
--- the table is sound, and there are 16 marks
-sound : (c : tie.Else1) → (soundTable maxEntries (memory (to-start c)) ≡ true) × (connections ≤ length (to-start c .args .marks .now))
-sound c = (table-sound (memory (to-start c)) (to-start c .args .marks .now) (both c), sixteen-marks (memory (to-start c)) (to-start c .args .marks .now) (both c))
+sound c = sound-call _ _ (c .before .is-sound .result) (c .before .is-sound .ensures) (c .if1 .left)
 
 to-sound : tie.After-judge-write → tie.Else1
 to-sound c = c .before .before .before
@@ -67,7 +59,7 @@ returns c = rw (c .unsound .ensures, ← (c .before .before .is-sound .ensures),
 
 judge-write-requires : tie.Need-judge-write-requires
 unfolding to-start
-judge-write-requires c κs = sound (c .before .before) .0
+judge-write-requires c κs = sound (c .before .before) .table-is
 
 enum-known-fault : tie.Need-enum-known-fault
 enum-known-fault c = search needs
@@ -84,9 +76,9 @@ ignored-requires c κs = search needs
 enum-known-number : tie.Need-enum-known-number
 enum-known-number c = search needs
 
-all-greeted-requires : tie.Need-all-greeted-requires
+other-greeted-requires : tie.Need-other-greeted-requires
 unfolding to-start to-sound
-all-greeted-requires c κs = sound (to-sound (c .before .before .before)) .1
+other-greeted-requires c κs = sound (to-sound (c .before .before .before)) .marks-there
 
 store-update-requires : tie.Need-store-update-requires
 unfolding to-start to-sound
@@ -96,8 +88,8 @@ store-update-requires c κs =
     let s = to-start (to-sound j) in
     let h = sound (to-sound j) in
     let w = known-writable (s .args .count) (s .args .id) (s .args .value .now) (j .judge-write .result) _ (n .number .given .1) (j .judge-write .ensures (s .args .marks .now) .writable) in
-    let b = sound-count maxEntries (memory s) (h .0) in
-    (holds-less (s .args .id + 1) (omega (arith, w .0, b)) (sound-holds maxEntries (memory s) (h .0)), w .1)
+    let b = sound-count maxEntries (memory s) (h .table-is) in
+    (holds-less (s .args .id + 1) (omega (arith, w .0, b)) (sound-holds maxEntries (memory s) (h .table-is)), w .1)
 
 same-length-3 : tie.Need-same-length-3
 same-length-3 c = search needs
@@ -110,7 +102,7 @@ unfolding callStep execute pick to-start to-sound
 returns-2 c =
     let n = c .before .before in
     let j = n .before .before in
-    rw (c .refused .ensures, both (to-sound j), decided j _ (n .fault .given .1))
+    rw (c .refused .ensures, sound (to-sound j) .both, decided j _ (n .fault .given .1))
 
 same-length-5 : tie.Need-same-length-5
 same-length-5 c = search needs
@@ -123,7 +115,7 @@ unfolding callStep execute pick to-start to-sound
 returns-3 c =
     let t = c .before in
     let j = t .before .before in
-    rw (c .ignored .ensures, both (to-sound j), decided j _ (t .enum-told .given .1))
+    rw (c .ignored .ensures, sound (to-sound j) .both, decided j _ (t .enum-told .given .1))
 
 same-length-7 : tie.Need-same-length-7
 same-length-7 c = search needs
@@ -142,7 +134,7 @@ returns-4 c =
     let n = g .before .before in
     let j = n .before .before in
     let s = to-start (to-sound j) in
-    rw (both (to-sound j), decided j _ (n .number .given .1)) (k .store-update .ensures (s .args .count) (s .args .marks .now) allGreeted (g .all-greeted .ensures))
+    rw (sound (to-sound j) .both, decided j _ (n .number .given .1)) (k .store-update .ensures (s .args .count) (s .args .marks .now) allGreeted (g .other-greeted .ensures ∙ others-all (s .args .marks .now)))
 
 pub write-spec : {M : Type 1} → statement M
 write-spec =
@@ -159,7 +151,7 @@ write-spec =
     enum-told
     ignored-requires
     enum-known-number
-    all-greeted-requires
+    other-greeted-requires
     store-update-requires
     same-length-3
     same-length-4
