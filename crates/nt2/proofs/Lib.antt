@@ -1,3 +1,5 @@
 pub mod Results
 pub mod UnchangedLaws
 pub mod FewLaws
+pub mod Beside
+pub mod Theorem

@@ -2,23 +2,18 @@
 use answer::Answer;
 use client::Copied;
 use field::UNSOUND;
-use flat::Fields;
+use fields::Fields;
 use flat::ScalarAnswer;
 use heads::Head;
 ghost use mathlib.Core.Path.{_≡_};
 ghost use mathlib.Core.List.{[]};
-ghost use Rattle.table.specs.Table.{maxEntries};
 ghost use Rattle.protocol.specs.Judge.{openConnection, leave, clientMessage, localCreate, localWrite};
-ghost use Rattle.protocol.specs.Step.{callStep, freshStart, readScalar};
-ghost use Rattle.protocol.specs.Lent.{answered, startOf};
-ghost use Rattle.protocol.specs.Copy.{copyMessage, copyFreshStart};
-ghost use Rattle.client.specs.Lent.{copied};
+ghost use Rattle.protocol.specs.Lent.{lentCall};
 ghost use Rattle.message.specs.Reader.{parseMessage};
-ghost use Rattle.writer.specs.Writer.{lentFields, check, answerOf, outputOf};
-ghost use Rattle.flat.specs.Fields.{fieldsOf, encodedAnswer};
-ghost use Rattle.flat.specs.Answers.{scalarAnswer};
-ghost use Rattle.client.specs.Lent.{copyStartOf};
-ghost use Rattle.nt2.specs.Lent.{lent, lentTable, pastTable};
+ghost use Rattle.writer.specs.Writer.{lentFields, check, writeResult};
+ghost use Rattle.fields.specs.Fields.{fieldsOf, encoded, encodeResult};
+ghost use Rattle.nt2.specs.Lent.{lent, lentTable, Started, headsAnswered, headsStep, EntryRead};
+ghost use Rattle.nt2.specs.Lent.{CopyStarted, headsCopied, headsCopyMessage};
 
 // What the calls answer on fewer heads than a table has.
 const TOO_FEW: Answer = Answer {
@@ -49,9 +44,8 @@ pub extern "C" fn nt2_fresh(
     marks: &mut [u8],
 ) -> Answer
     ensures { λ r.
-        ⌜ (r ≡ startOf (freshStart maxEntries (lent (heads .entry) (bytes .entry) (count .entry) (marks .entry))))
-        × (lent (heads .entry) (bytes .entry) (count .exit) (marks .exit)
-        ≡ freshStart maxEntries (lent (heads .entry) (bytes .entry) (count .entry) (marks .entry)) .memory) ⌝ }
+        ⌜ Started (lent (heads .entry) (bytes .entry) (count .entry) (marks .entry)) r
+        (lent (heads .entry) (bytes .entry) (count .exit) (marks .exit)) ⌝ }
 {
     if heads.len() < table::MAX_ENTRIES {
         return TOO_FEW;
@@ -70,8 +64,8 @@ pub extern "C" fn nt2_open(
     connection: usize,
 ) -> Answer
     ensures { λ r.
-        ⌜ answered r (lent (heads .entry) (bytes .entry) (count .exit) (marks .exit)) []
-        ≡ callStep maxEntries (lent (heads .entry) (bytes .entry) (count .entry) (marks .entry))
+        ⌜ headsAnswered r (lent (heads .entry) (bytes .entry) (count .exit) (marks .exit)) []
+        ≡ headsStep (lent (heads .entry) (bytes .entry) (count .entry) (marks .entry))
         (record { call = openConnection connection; output = [] }) ⌝ }
 {
     if heads.len() < table::MAX_ENTRIES {
@@ -91,8 +85,8 @@ pub extern "C" fn nt2_leave(
     connection: usize,
 ) -> Answer
     ensures { λ r.
-        ⌜ answered r (lent (heads .entry) (bytes .entry) (count .exit) (marks .exit)) []
-        ≡ callStep maxEntries (lent (heads .entry) (bytes .entry) (count .entry) (marks .entry))
+        ⌜ headsAnswered r (lent (heads .entry) (bytes .entry) (count .exit) (marks .exit)) []
+        ≡ headsStep (lent (heads .entry) (bytes .entry) (count .entry) (marks .entry))
         (record { call = leave connection; output = [] }) ⌝ }
 {
     if heads.len() < table::MAX_ENTRIES {
@@ -114,10 +108,9 @@ pub extern "C" fn nt2_receive(
     out: &mut [u8],
 ) -> Answer
     ensures { λ r.
-        ⌜ (answered r (lent (heads .exit) (bytes .exit) (count .exit) (marks .exit)) (now (out .exit))
-        ≡ callStep maxEntries (lent (heads .entry) (bytes .entry) (count .entry) (marks .entry))
-        (record { call = clientMessage connection (now (message .entry)); output = now (out .entry) }))
-        × (pastTable (heads .exit) ≡ pastTable (heads .entry)) ⌝ }
+        ⌜ headsAnswered r (lent (heads .exit) (bytes .exit) (count .exit) (marks .exit)) (now (out .exit))
+        ≡ headsStep (lent (heads .entry) (bytes .entry) (count .entry) (marks .entry))
+        (lentCall (clientMessage connection (now (message .entry))) (out .entry)) ⌝ }
 {
     if heads.len() < table::MAX_ENTRIES {
         return TOO_FEW;
@@ -141,10 +134,9 @@ pub extern "C" fn nt2_create(
     out: &mut [u8],
 ) -> Answer
     ensures { λ r.
-        ⌜ (answered r (lent (heads .exit) (bytes .exit) (count .exit) (marks .entry)) (now (out .exit))
-        ≡ callStep maxEntries (lent (heads .entry) (bytes .entry) (count .entry) (marks .entry))
-        (record { call = localCreate (now (name .entry)) «type_code» (now (value .entry)); output = now (out .entry) }))
-        × (pastTable (heads .exit) ≡ pastTable (heads .entry)) ⌝ }
+        ⌜ headsAnswered r (lent (heads .exit) (bytes .exit) (count .exit) (marks .entry)) (now (out .exit))
+        ≡ headsStep (lent (heads .entry) (bytes .entry) (count .entry) (marks .entry))
+        (lentCall (localCreate (now (name .entry)) «type_code» (now (value .entry))) (out .entry)) ⌝ }
 {
     if heads.len() < table::MAX_ENTRIES {
         return TOO_FEW;
@@ -167,10 +159,9 @@ pub extern "C" fn nt2_write(
     out: &mut [u8],
 ) -> Answer
     ensures { λ r.
-        ⌜ (answered r (lent (heads .exit) (bytes .exit) (count .exit) (marks .entry)) (now (out .exit))
-        ≡ callStep maxEntries (lent (heads .entry) (bytes .entry) (count .entry) (marks .entry))
-        (record { call = localWrite id (now (value .entry)); output = now (out .entry) }))
-        × (pastTable (heads .exit) ≡ pastTable (heads .entry)) ⌝ }
+        ⌜ headsAnswered r (lent (heads .exit) (bytes .exit) (count .exit) (marks .entry)) (now (out .exit))
+        ≡ headsStep (lent (heads .entry) (bytes .entry) (count .entry) (marks .entry))
+        (lentCall (localWrite id (now (value .entry))) (out .entry)) ⌝ }
 {
     if heads.len() < table::MAX_ENTRIES {
         return TOO_FEW;
@@ -185,8 +176,8 @@ pub extern "C" fn nt2_write(
 #[no_mangle]
 pub extern "C" fn nt2_read(heads: &[Head], bytes: &[u8], count: &mut u16, id: u16) -> ScalarAnswer
     ensures { λ r.
-        ⌜ (r ≡ scalarAnswer (readScalar maxEntries (lentTable (heads .entry) (bytes .entry) (count .entry)) id))
-        × (now (count .exit) ≡ now (count .entry)) ⌝ }
+        ⌜ EntryRead (lentTable (heads .entry) (bytes .entry) (count .entry)) id r
+        (lentTable (heads .entry) (bytes .entry) (count .exit)) ⌝ }
 {
     if heads.len() < table::MAX_ENTRIES {
         return NOTHING_READ;
@@ -199,9 +190,8 @@ pub extern "C" fn nt2_read(heads: &[Head], bytes: &[u8], count: &mut u16, id: u1
 #[no_mangle]
 pub extern "C" fn nt2_copy_fresh(heads: &[Head], bytes: &[u8], count: &mut u16) -> Answer
     ensures { λ r.
-        ⌜ (r ≡ copyStartOf (copyFreshStart maxEntries (lentTable (heads .entry) (bytes .entry) (count .entry))))
-        × (lentTable (heads .entry) (bytes .entry) (count .exit)
-        ≡ copyFreshStart maxEntries (lentTable (heads .entry) (bytes .entry) (count .entry)) .memory) ⌝ }
+        ⌜ CopyStarted (lentTable (heads .entry) (bytes .entry) (count .entry)) r
+        (lentTable (heads .entry) (bytes .entry) (count .exit)) ⌝ }
 {
     if heads.len() < table::MAX_ENTRIES {
         return TOO_FEW;
@@ -219,9 +209,8 @@ pub extern "C" fn nt2_copy_receive(
     message: &[u8],
 ) -> Copied
     ensures { λ r.
-        ⌜ (copied r (lentTable (heads .exit) (bytes .exit) (count .exit))
-        ≡ copyMessage maxEntries (lentTable (heads .entry) (bytes .entry) (count .entry)) (now (message .entry)))
-        × (pastTable (heads .exit) ≡ pastTable (heads .entry)) ⌝ }
+        ⌜ headsCopied r (lentTable (heads .exit) (bytes .exit) (count .exit))
+        ≡ headsCopyMessage (lentTable (heads .entry) (bytes .entry) (count .entry)) (now (message .entry)) ⌝ }
 {
     if heads.len() < table::MAX_ENTRIES {
         return NOTHING_COPIED;
@@ -247,16 +236,13 @@ pub extern "C" fn nt2_encode(
     value: &[u8],
     out: &mut [u8],
 ) -> Answer
-    ensures answer { λ r.
-        ⌜ r ≡ encodedAnswer
-        (answerOf (check (lentFields kind revision (name .entry) «type_code» id «entry_number» (value .entry)))
+    ensures { λ r.
+        ⌜ encoded r (now (out .exit))
+        ≡ encodeResult
+        (writeResult (check (lentFields kind revision (name .entry) «type_code» id «entry_number» (value .entry)))
         (now (out .entry))) ⌝ }
-    ensures output { λ _.
-        ⌜ now (out .exit)
-        ≡ outputOf (check (lentFields kind revision (name .entry) «type_code» id «entry_number» (value .entry)))
-        (now (out .entry)) ⌝ }
 {
-    flat::encode(
+    fields::encode(
         kind,
         revision,
         name,
@@ -273,5 +259,5 @@ pub extern "C" fn nt2_encode(
 pub extern "C" fn nt2_decode(bytes: &[u8], update_type: u8) -> Fields
     ensures { λ r. ⌜ r ≡ fieldsOf (parseMessage «update_type» (now (bytes .entry))) ⌝ }
 {
-    flat::decode(bytes, update_type)
+    fields::decode(bytes, update_type)
 }

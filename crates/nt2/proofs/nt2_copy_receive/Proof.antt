@@ -7,6 +7,7 @@ use Rattle.protocol.specs.Copy.{copyMessage}
 use Rattle.client.specs.Lent.{copied}
 use Rattle.client.proofs.Copied as O
 use Rattle.client.proofs.Copied.Laws as O′
+use Rattle.nt2.proofs.Beside.{copy-beside}
 use Rattle.nt2.proofs.FewLaws.{copy-few}
 use Rattle.nt2.proofs.Results.{copiedNothing, copiedNothing-is as few-is}
 use Rattle.nt2.proofs.UnchangedLaws.{copy-keeps}
@@ -58,7 +59,7 @@ module _ {M : Type 1} (𝓤 : URA M) (H : Heap 𝓤) (A : Atoms 𝓤) (W : Given
       #core (Core 𝓤 H A at-mem run) known-core O.the-row O′.lowered (LL.tells O.the-type O′.the-laws) last says-last known-load E (are .0 .0 .1))
       _ _ _ _ _ _ _ refl _ _ refl tt tt refl refl refl tt
       (λ few. via 𝓤 _ (exits-early 𝓤 H A W (fn′.signature .params) (fn′.ended .kept) κs a vals stood (κs .0) (qs .0) tokens O.the-row (LL.makes O.the-type O′.the-plain 𝓤 H A)
-      copiedNothing _ few-is _ (copy-few _ _ _ (length-few hs few) _, refl)) (end (O′.lowered copiedNothing) copiedNothing (nows 𝓤 H A (fn′.signature .params) (fn′.ended .kept) κs a stood) (tt, (tt, (tt, (tt, tt))))))
+      copiedNothing _ few-is _ (copy-beside (copy-few _ _ _ (length-few hs few) _) refl)) (end (O′.lowered copiedNothing) copiedNothing (nows 𝓤 H A (fn′.signature .params) (fn′.ended .kept) κs a stood) (tt, (tt, (tt, (tt, tt))))))
       _ _ _ refl _ refl tt _ _ _ _ refl refl refl tt _ _ (λ w. refl) (λ enough w.
       finishes 𝓤 H A W (𝓣 .C) (𝓣 .Λ) fm at-mem run after tokens others (κs .0) (qs .0) (a .0 .name) (a .0 .ptr .0) (a .0 .ptr .1) hs
       #core (Core 𝓤 H A at-mem run) known-core O.the-row O′.lowered (LL.tells O.the-type O′.the-laws) last says-last
@@ -68,7 +69,7 @@ module _ {M : Type 1} (𝓤 : URA M) (H : Heap 𝓤) (A : Atoms 𝓤) (W : Given
       _ _ _ _ (λ r. refl) (λ r. refl) refl (λ r. tt) _ (λ r w. refl) 5 refl (λ r w. tt) (λ r w. tt) (λ r w. refl) (λ r w. tt) (λ r zs ws is z e.
       via 𝓤 _ (exits 𝓤 H A W (κs .0) (qs .0) (a .0 .name) (a .0 .ptr .0) (a .0 .ptr .1) hs tokens (says-last ws) (O.the-row .own r (O′.lowered r ∷ [])) _
       (stored (changed (r .number)) zs hs) (length-stored (changed (r .number)) zs hs)
-      (rw (store-flat hs enough zs z (r .number) (copy-keeps _ _ _ r _ _ _ e), ← (load-flat hs enough)) e, store-rest hs enough zs (r .number)))
+      (copy-beside (rw (store-flat hs enough zs z (r .number) (copy-keeps _ _ _ r _ _ _ e), ← (load-flat hs enough)) e) (store-rest hs enough zs (r .number))))
       (end (O′.lowered r) r (stored (changed (r .number)) zs hs, ws) (tt, (tt, (tt, (tt, tt)))))))))
 
 pub nt2-copy-receive-spec : {M : Type 1} → stated.statement M

@@ -7,6 +7,7 @@ use Rattle.protocol.specs.Step.{callStep}
 use Rattle.protocol.specs.Lent.{serverMemory, answered}
 use Rattle.answer.proofs.Answer as O
 use Rattle.answer.proofs.Answer.Laws as O′
+use Rattle.nt2.proofs.Beside.{beside}
 use Rattle.nt2.proofs.FewLaws.{call-few}
 use Rattle.nt2.proofs.Results.{tooFew, tooFew-is as few-is}
 use Rattle.flat.proofs.open_flat as core′
@@ -59,7 +60,7 @@ module _ {M : Type 1} (𝓤 : URA M) (H : Heap 𝓤) (A : Atoms 𝓤) (W : Given
       #core (Core 𝓤 H A at-mem run) known-core O.the-row O′.lowered (LL.tells O.the-type O′.the-laws) last says-last known-load E)
       _ _ _ _ _ _ _ refl _ _ refl tt tt refl refl refl tt
       (λ few. via 𝓤 _ (exits-early 𝓤 H A W (fn′.signature .params) (fn′.ended .kept) κs a vals stood (κs .0) (qs .0) tokens O.the-row (LL.makes O.the-type O′.the-plain 𝓤 H A)
-      tooFew _ few-is _ (call-few _ _ _ (length-few hs few) _ _)) (end (O′.lowered tooFew) tooFew (nows 𝓤 H A (fn′.signature .params) (fn′.ended .kept) κs a stood) (tt, (tt, (tt, (tt, (tt, tt)))))))
+      tooFew _ few-is _ (beside (call-few _ _ _ (length-few hs few) _ _) refl)) (end (O′.lowered tooFew) tooFew (nows 𝓤 H A (fn′.signature .params) (fn′.ended .kept) κs a stood) (tt, (tt, (tt, (tt, (tt, tt)))))))
       _ _ _ refl _ refl tt _ _ _ _ refl refl refl tt _ _ (λ w. refl) (λ enough w.
       finishes-shr 𝓤 H A W (𝓣 .C) (𝓣 .Λ) fm at-mem run after tokens others (κs .0) (qs .0) (a .0 .name) (a .0 .ptr .0) (a .0 .ptr .1) hs
       #core (Core 𝓤 H A at-mem run) known-core O.the-row O′.lowered (LL.tells O.the-type O′.the-laws) last says-last
@@ -68,7 +69,7 @@ module _ {M : Type 1} (𝓤 : URA M) (H : Heap 𝓤) (A : Atoms 𝓤) (W : Given
       (λ ν δ. id⊢ 𝓤 _) (λ ν δ w. id⊢ 𝓤 _) (λ ν δ. refl) (λ r is. LL.lawful O.the-type O′.the-laws 𝓤 H A W .typed r _ is .0) tt
       _ (λ r. refl) 6 refl (λ r. tt) (λ r. tt) (λ r. refl) (λ r. tt) (λ r ws is e.
       via 𝓤 _ (exits-shr 𝓤 H A W (κs .0) (qs .0) (a .0 .name) (a .0 .ptr .0) (a .0 .ptr .1) hs tokens (says-last ws) (O.the-row .own r (O′.lowered r ∷ [])) _
-      (rw (← (load-flat hs enough)) e)) (end (O′.lowered r) r (tt, ws) (tt, (tt, (tt, (tt, (tt, tt))))))))))
+      (beside (rw (← (load-flat hs enough)) e) refl)) (end (O′.lowered r) r (tt, ws) (tt, (tt, (tt, (tt, (tt, tt))))))))))
 
 pub nt2-open-spec : {M : Type 1} → stated.statement M
 unfolding code.routine tablesOf

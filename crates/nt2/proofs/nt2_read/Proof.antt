@@ -66,7 +66,7 @@ module _ {M : Type 1} (𝓤 : URA M) (H : Heap 𝓤) (A : Atoms 𝓤) (W : Given
       (λ ν δ. id⊢ 𝓤 _) (λ ν δ w. id⊢ 𝓤 _) (λ ν δ. refl) (λ r is. LL.lawful O.the-type O′.the-laws 𝓤 H A W .typed r _ is .0) tt
       _ (λ r. refl) 5 refl (λ r. tt) (λ r. tt) (λ r. refl) (λ r. tt) (λ r ws is e.
       via 𝓤 _ (exits-shr 𝓤 H A W (κs .0) (qs .0) (a .0 .name) (a .0 .ptr .0) (a .0 .ptr .1) hs tokens (says-last ws) (O.the-row .own r (O′.lowered r ∷ [])) _
-      (rw (← (load-flat hs enough)) e)) (end (O′.lowered r) r (tt, ws) (tt, (tt, (tt, (tt, tt)))))))))
+      (rw (← (load-flat hs enough)) (e .0), rw (e .1))) (end (O′.lowered r) r (tt, ws) (tt, (tt, (tt, (tt, tt)))))))))
 
 pub nt2-read-spec : {M : Type 1} → stated.statement M
 unfolding code.routine tablesOf

@@ -7,6 +7,7 @@ use Rattle.protocol.specs.Step.{callStep}
 use Rattle.protocol.specs.Lent.{serverMemory, answered}
 use Rattle.answer.proofs.Answer as O
 use Rattle.answer.proofs.Answer.Laws as O′
+use Rattle.nt2.proofs.Beside.{beside}
 use Rattle.nt2.proofs.FewLaws.{call-few}
 use Rattle.nt2.proofs.Results.{tooFew, tooFew-is as few-is}
 use Rattle.nt2.proofs.UnchangedLaws.{call-keeps}
@@ -62,7 +63,7 @@ module _ {M : Type 1} (𝓤 : URA M) (H : Heap 𝓤) (A : Atoms 𝓤) (W : Given
       #core (Core 𝓤 H A at-mem run) known-core O.the-row O′.lowered (LL.tells O.the-type O′.the-laws) last says-last known-load E (are .0 .0 .1))
       _ _ _ _ _ _ _ refl _ _ refl tt tt refl refl refl tt
       (λ few. via 𝓤 _ (exits-early 𝓤 H A W (fn′.signature .params) (fn′.ended .kept) κs a vals stood (κs .0) (qs .0) tokens O.the-row (LL.makes O.the-type O′.the-plain 𝓤 H A)
-      tooFew _ few-is _ (call-few _ _ _ (length-few hs few) _ _, refl)) (end (O′.lowered tooFew) tooFew (nows 𝓤 H A (fn′.signature .params) (fn′.ended .kept) κs a stood) (tt, (tt, (tt, (tt, (tt, (tt, (tt, tt)))))))))
+      tooFew _ few-is _ (beside (call-few _ _ _ (length-few hs few) _ _) refl)) (end (O′.lowered tooFew) tooFew (nows 𝓤 H A (fn′.signature .params) (fn′.ended .kept) κs a stood) (tt, (tt, (tt, (tt, (tt, (tt, (tt, tt)))))))))
       _ _ _ refl _ refl tt _ _ _ _ refl refl refl tt _ _ (λ w. refl) (λ enough w.
       finishes 𝓤 H A W (𝓣 .C) (𝓣 .Λ) fm at-mem run after tokens others (κs .0) (qs .0) (a .0 .name) (a .0 .ptr .0) (a .0 .ptr .1) hs
       #core (Core 𝓤 H A at-mem run) known-core O.the-row O′.lowered (LL.tells O.the-type O′.the-laws) last says-last
@@ -72,7 +73,7 @@ module _ {M : Type 1} (𝓤 : URA M) (H : Heap 𝓤) (A : Atoms 𝓤) (W : Given
       _ _ _ _ (λ r. refl) (λ r. refl) refl (λ r. tt) _ (λ r w. refl) 8 refl (λ r w. tt) (λ r w. tt) (λ r w. refl) (λ r w. tt) (λ r zs ws is z e.
       via 𝓤 _ (exits 𝓤 H A W (κs .0) (qs .0) (a .0 .name) (a .0 .ptr .0) (a .0 .ptr .1) hs tokens (says-last ws) (O.the-row .own r (O′.lowered r ∷ [])) _
       (stored (changed (r .number)) zs hs) (length-stored (changed (r .number)) zs hs)
-      (rw (store-flat hs enough zs z (r .number) (call-keeps _ _ _ r _ _ _ _ _ e), ← (load-flat hs enough)) e, store-rest hs enough zs (r .number)))
+      (beside (rw (store-flat hs enough zs z (r .number) (call-keeps _ _ _ r _ _ _ _ _ e), ← (load-flat hs enough)) e) (store-rest hs enough zs (r .number))))
       (end (O′.lowered r) r (stored (changed (r .number)) zs hs, ws) (tt, (tt, (tt, (tt, (tt, (tt, (tt, tt))))))))))))
 
 pub nt2-receive-spec : {M : Type 1} → stated.statement M
