@@ -7,19 +7,19 @@ use Prim.Native.Nat.{ℕ, suc, _≤_, _<_}
 use native.Mathlib.Omega.{arith}
 use lib.ListN.{length, getD}
 use borrow.Author.Tests.{le-leb, lt-leb, lt-ltb, le-ltb, ne-eqb}
-use Rattle.field.specs.Answer.{unknownId}
+use Rattle.field.specs.Answer.{connectionTooHigh, unknownId}
 use Rattle.field.specs.Choice.{pick}
 use Rattle.field.specs.Field.{faultAt}
 use Rattle.field.specs.Octets.{encode16}
 use Rattle.field.proofs.ChoiceLaws.{pick-false}
 use Rattle.field.proofs.OctetsLaws.{decode-encode}
 use Rattle.value.proofs.ValueLaws.{lone-taken}
-use Rattle.message.specs.Layout.{updateKind, updateBytes, hello, assignment, update, layout}
+use Rattle.message.specs.Layout.{helloKind, assignmentKind, updateKind, kindSize, updateBytes, hello, assignment, update, layout}
 use Rattle.message.specs.declared.UpdateRead.the-variants as U
 use Rattle.message.proofs.ReaderLaws.{update-unknown}
 use Rattle.table.specs.Table.{entryOf, parseHeldUpdate, entriesOf}
 use Rattle.table.proofs.TabulateLaws.{length-entries}
-use Rattle.soundness.specs.Sound.{soundTable, soundMarks}
+use Rattle.soundness.specs.Sound.{soundTable, soundMarks, connections, greeted}
 use Rattle.protocol.specs.Judge.{Call, openConnection, leave, clientMessage, localCreate, localWrite, readEntry, protocolRevision, newId, judgeHello, judgeUpdate, judgeKind, judgeMessage, judgeCreate, judgeWrite, judge}
 use Rattle.protocol.specs.Step.{ServerMemory, refusal, execute, soundFor, callStep}
 use Rattle.protocol.specs.Kept.{SoundMemory}
@@ -65,63 +65,63 @@ pub too-high-refused : TooHighRefused
 unfolding judge execute pick
 too-high-refused limit mem s c b k concerns = step-is limit mem s k ∙ go (k .call) concerns
   where
-    go : (call : Call) → Concerns c call → execute mem (k .output) (judge limit (entriesOf (mem .table)) (mem .marks) call) ≡ refusal mem (k .output) 2
-    go (openConnection d) Concerns.opening = rw (le-ltb c 16 b)
-    go (leave d) Concerns.leaving = rw (le-ltb c 16 b)
-    go (clientMessage d m) Concerns.sending = rw (le-ltb c 16 b)
+    go : (call : Call) → Concerns c call → execute mem (k .output) (judge limit (entriesOf (mem .table)) (mem .marks) call) ≡ refusal mem (k .output) connectionTooHigh
+    go (openConnection d) Concerns.opening = rw (le-ltb c connections b)
+    go (leave d) Concerns.leaving = rw (le-ltb c connections b)
+    go (clientMessage d m) Concerns.sending = rw (le-ltb c connections b)
 
 pub closed-refused : ClosedRefused
 unfolding judge execute pick
 closed-refused limit mem s c b o m out =
     record {
-      message = step-is limit mem s (messageCall c m out) ∙ rw (lt-ltb c 16 b, o);
-      left = step-is limit mem s (record { call = leave c; output = out }) ∙ rw (lt-ltb c 16 b, o);
+      message = step-is limit mem s (messageCall c m out) ∙ rw (lt-ltb c connections b, o);
+      left = step-is limit mem s (record { call = leave c; output = out }) ∙ rw (lt-ltb c connections b, o);
     }
 
 pub open-again-refused : OpenAgainRefused
 unfolding judge execute pick
-open-again-refused limit mem s c b o out = step-is limit mem s (record { call = openConnection c; output = out }) ∙ rw (lt-ltb c 16 b, ne-eqb _ _ o)
+open-again-refused limit mem s c b o out = step-is limit mem s (record { call = openConnection c; output = out }) ∙ rw (lt-ltb c connections b, ne-eqb _ _ o)
 
 -- ---- a client's message
 
 pub empty-refused : EmptyRefused
 unfolding judge judgeMessage execute pick
-empty-refused limit mem s c b o out = step-is limit mem s (messageCall c [] out) ∙ rw (lt-ltb c 16 b, ne-eqb _ _ o)
+empty-refused limit mem s c b o out = step-is limit mem s (messageCall c [] out) ∙ rw (lt-ltb c connections b, ne-eqb _ _ o)
 
 pub kind-refused : KindRefused
 unfolding judge judgeMessage judgeKind execute pick
 kind-refused limit mem s c b o kind a h n u rest out =
     step-is limit mem s (messageCall c (kind ∷ rest) out)
-    ∙ rw (lt-ltb c 16 b, ne-eqb _ _ o, le-leb 1 (suc (length rest)) (omega arith), ne-eqb _ _ a, ne-eqb _ _ h, ne-eqb _ _ n, ne-eqb _ _ u)
+    ∙ rw (lt-ltb c connections b, ne-eqb _ _ o, le-leb 1 (suc (length rest)) (omega arith), ne-eqb _ _ a, ne-eqb _ _ h, ne-eqb _ _ n, ne-eqb _ _ u)
 
 pub greeted-hello-refused : GreetedHelloRefused
 unfolding judge judgeMessage judgeKind judgeHello execute pick
 greeted-hello-refused limit mem s c b g rest out =
-    step-is limit mem s (messageCall c (1 ∷ rest) out) ∙ rw (lt-ltb c 16 b, g, le-leb 1 (suc (length rest)) (omega arith))
+    step-is limit mem s (messageCall c (helloKind ∷ rest) out) ∙ rw (lt-ltb c connections b, g, le-leb 1 (suc (length rest)) (omega arith))
 
 pub ungreeted-refused : UngreetedRefused
 unfolding judge judgeMessage judgeKind execute pick
 ungreeted-refused limit mem s c b o rest out =
     record {
-      assignment = step-is limit mem s (messageCall c (0x10 ∷ rest) out) ∙ rw (lt-ltb c 16 b, o, le-leb 1 (suc (length rest)) (omega arith));
-      update = step-is limit mem s (messageCall c (0x11 ∷ rest) out) ∙ rw (lt-ltb c 16 b, o, le-leb 1 (suc (length rest)) (omega arith));
+      assignment = step-is limit mem s (messageCall c (assignmentKind ∷ rest) out) ∙ rw (lt-ltb c connections b, o, le-leb 1 (suc (length rest)) (omega arith));
+      update = step-is limit mem s (messageCall c (updateKind ∷ rest) out) ∙ rw (lt-ltb c connections b, o, le-leb 1 (suc (length rest)) (omega arith));
     }
 
 -- an update of an ID that is not held
 not-held : (mem : ServerMemory) (id number : ℕ) (value rest : List ℕ) → mem .table .count ≤ id
-    → parseHeldUpdate (entriesOf (mem .table)) (updateBytes id number value ++ rest) ≡ U.Refused (faultAt unknownId 1)
+    → parseHeldUpdate (entriesOf (mem .table)) (updateBytes id number value ++ rest) ≡ U.Refused (faultAt unknownId kindSize)
 unfolding updateBytes encode16
 not-held mem id number value rest l =
     let b : length (entriesOf (mem .table)) ≤ id = omega (arith, length-entries (mem .table)) in
     update-unknown _ _ _ id (omega arith) (sym (decode-encode id _)) (le-ltb _ _ b)
 
 -- an update of a greeted connection is judged as it is read
-update-step : (limit : ℕ) (mem : ServerMemory) → SoundMemory limit mem → (c : ℕ) → c < 16 → getD (mem .marks) c 0 ≡ 2 → (rest out : List ℕ)
+update-step : (limit : ℕ) (mem : ServerMemory) → SoundMemory limit mem → (c : ℕ) → c < connections → getD (mem .marks) c 0 ≡ greeted → (rest out : List ℕ)
     → callStep limit mem (messageCall c (updateKind ∷ rest) out)
     ≡ execute mem out (judgeUpdate c (entriesOf (mem .table)) (updateKind ∷ rest) (parseHeldUpdate (entriesOf (mem .table)) (updateKind ∷ rest)))
 unfolding judge judgeMessage judgeKind pick
 update-step limit mem s c b g rest out =
-    step-is limit mem s (messageCall c (updateKind ∷ rest) out) ∙ rw (lt-ltb c 16 b, g, le-leb 1 (suc (length rest)) (omega arith))
+    step-is limit mem s (messageCall c (updateKind ∷ rest) out) ∙ rw (lt-ltb c connections b, g, le-leb 1 (suc (length rest)) (omega arith))
 
 pub unknown-id-refused : UnknownIdRefused
 unfolding judgeUpdate execute updateBytes

@@ -33,6 +33,10 @@ pub record StandsFirst (es : List Entry) (m : List ℕ) (x : Message) : Type 0 w
   pub obeys : FromClient es x
   pub first : BeginsWith m x
 
+-- and no other does
+abbrev pub OneStandsFirst : Type 0
+OneStandsFirst = (es : List Entry) (m : List ℕ) (x y : Message) → StandsFirst es m x → StandsFirst es m y → x ≡ y
+
 -- the state that a message needs: "Keep alive: 16, also before greeting"; "Hello: open connections only"; "greeted only"
 abbrev pub StateAllows : (mark : ℕ) → Message → Type 0
 StateAllows mark keepAlive = mark ≢ closed
@@ -41,10 +45,6 @@ StateAllows mark (unsupported revision) = ⊥
 StateAllows mark helloComplete = ⊥
 StateAllows mark (assignment id e) = mark ≡ greeted
 StateAllows mark (update id number value) = mark ≡ greeted
-
--- and no other does
-abbrev pub OneStandsFirst : Type 0
-OneStandsFirst = (es : List Entry) (m : List ℕ) (x y : Message) → StandsFirst es m x → StandsFirst es m y → x ≡ y
 
 -- a client's call takes the message that stands first
 pub record TakesFirst (limit : ℕ) (mem : ServerMemory) (c : ℕ) (m out : List ℕ) : Type 0 where
