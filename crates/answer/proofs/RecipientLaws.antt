@@ -116,7 +116,7 @@ greeted-receive marks c h =
     record {
       greeted-do = λ g. recipient-bit allGreeted marks c h ∙ rw (eq-eqb _ _ g);
       others-do = λ d g n. recipient-bit (otherGreeted d) marks c h ∙ rw (eq-eqb _ _ g, ne-eqb _ _ n);
-      no-one-else = λ n. recipient-bit allGreeted marks c h ∙ rw (ne-eqb _ _ n);
+      no-one-else = λ n. (recipient-bit allGreeted marks c h ∙ rw (ne-eqb _ _ n), λ d. recipient-bit (otherGreeted d) marks c h ∙ rw (ne-eqb _ _ n));
       sender-left-out = recipient-bit (otherGreeted c) marks c h ∙ rw (eq-eqb c c refl) (and-false (eqb (getD marks c 0) 2));
     }
 

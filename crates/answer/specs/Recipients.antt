@@ -42,7 +42,8 @@ RecipientBit = (to : Recipients) (marks : List ℕ) (c : ℕ) → c < connection
 pub record GreetedReceive (marks : List ℕ) (c : ℕ) : Type 0 where
   pub greeted-do : getD marks c 0 ≡ greeted → testBit (recipientSet allGreeted marks) c ≡ true
   pub others-do : (d : ℕ) → getD marks c 0 ≡ greeted → c ≢ d → testBit (recipientSet (otherGreeted d) marks) c ≡ true
-  pub no-one-else : getD marks c 0 ≢ greeted → testBit (recipientSet allGreeted marks) c ≡ false
+  pub no-one-else : getD marks c 0 ≢ greeted
+      → (testBit (recipientSet allGreeted marks) c ≡ false) × ((d : ℕ) → testBit (recipientSet (otherGreeted d) marks) c ≡ false)
   -- "Returning an applied update to its sender" looks right
   pub sender-left-out : testBit (recipientSet (otherGreeted c) marks) c ≡ false
 
