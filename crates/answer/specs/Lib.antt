@@ -1,1 +1,1 @@
-pub mod Recipients
+pub mod Answers

@@ -1,103 +1,65 @@
-// What a call answers with, and the set of recipients.
+// What a call answers with.
 use field::DONE;
 use field::Fault;
 use field::IGNORED;
 ghost use mathlib.Core.Path.{_≡_};
-ghost use mathlib.Core.Bool.{_&&_, not};
-ghost use Prim.Native.Nat.{_≤_, _<_};
-ghost use lib.ListN.{length};
-ghost use lib.Dec.{eqb};
-ghost use Rattle.field.specs.Answer.{done, ignored};
-ghost use Rattle.field.specs.Choice.{pick};
-ghost use Rattle.answer.specs.Recipients.{sender, otherGreeted, recipientSet};
-ghost use Rattle.soundness.specs.Sound.{connections, greeted};
+ghost use Rattle.answer.specs.Answers.{bareAnswer, refusedAnswer, ignoredAnswer, doneAnswer};
 
-// What a call answers: its number, the set of recipients, bytes taken and bytes sent.
+// What a call answers: its number, the set of recipients, bytes taken and bytes sent, and the place of the field that failed.
 #[repr(C)]
 pub struct Answer {
     pub number: u8,
     pub recipients: u16,
     pub taken: usize,
     pub sent: usize,
+    pub place: usize,
+}
+
+// A number alone: nothing is taken or sent, and no field failed.
+pub fn bare(number: u8) -> Answer
+    ensures { λ r. ⌜ r ≡ bareAnswer number ⌝ }
+{
+    Answer {
+        number: number,
+        recipients: 0,
+        taken: 0,
+        sent: 0,
+        place: 0,
+    }
 }
 
 pub fn refused(fault: Fault) -> Answer
-    ensures { λ r. ⌜ r ≡ record { number = fault .number; recipients = 0; taken = 0; sent = 0 } ⌝ }
+    ensures { λ r. ⌜ r ≡ refusedAnswer fault ⌝ }
 {
     Answer {
         number: fault.number,
         recipients: 0,
         taken: 0,
         sent: 0,
+        place: field::reported_place(fault),
     }
 }
 
 pub fn ignored(taken: usize) -> Answer
-    ensures { λ r. ⌜ r ≡ record { number = ignored; recipients = 0; taken = taken; sent = 0 } ⌝ }
+    ensures { λ r. ⌜ r ≡ ignoredAnswer taken ⌝ }
 {
     Answer {
         number: IGNORED,
         recipients: 0,
         taken: taken,
         sent: 0,
+        place: 0,
     }
 }
 
 pub fn done(recipients: u16, taken: usize, sent: usize) -> Answer
-    ensures { λ r. ⌜ r ≡ record { number = done; recipients = recipients; taken = taken; sent = sent } ⌝ }
+    ensures { λ r. ⌜ r ≡ doneAnswer recipients taken sent ⌝ }
 {
     Answer {
         number: DONE,
         recipients: recipients,
         taken: taken,
         sent: sent,
+        place: 0,
     }
-}
-
-// ---- the set of recipients
-
-// The number of no connection: all greeted are those but no one.
-pub const NO_ONE: usize = soundness::CONNECTIONS;
-
-// The weight of a connection that is greeted and not the one left out, and else 0.
-fn weight(mark: u8, c: usize, left_out: usize, power: u32) -> u32
-    ensures { λ r. ⌜ r ≡ pick (eqb mark greeted && not (eqb c «left_out»)) power 0 ⌝ }
-{
-    if mark != soundness::GREETED {
-        return 0;
-    }
-    if c == left_out {
-        return 0;
-    }
-    power
-}
-
-// All greeted connections but one.
-pub fn other_greeted(marks: &[u8], left_out: usize) -> u16
-    requires { ⌜ connections ≤ length (now marks) ⌝ }
-    ensures { λ r. ⌜ r ≡ recipientSet (otherGreeted «left_out») (now (marks .entry)) ⌝ }
-{
-    let mut set: u32 = 0;
-    let mut power: u32 = 1;
-    let mut c = 0;
-    while c < soundness::CONNECTIONS {
-        set += weight(marks[c], c, left_out, power);
-        power *= 2;
-        c += 1;
-    }
-    set as u16
-}
-
-// The sender alone.
-pub fn only_sender(marks: &[u8], c: usize) -> u16
-    requires { ⌜ c < connections ⌝ }
-    ensures { λ r. ⌜ r ≡ recipientSet (sender c) (now (marks .entry)) ⌝ }
-{
-    let mut power: u32 = 1;
-    let mut i = 0;
-    while i < c {
-        power *= 2;
-        i += 1;
-    }
-    power as u16
 }

@@ -3,23 +3,31 @@ use Prim.Native.Nat.{ℕ, _≤_, _<_}
 use mathlib.Core.List.{List}
 use mathlib.Core.Path.{_≡_}
 use lib.ListN.{length}
+use Rattle.field.specs.Answer.{done, ignored}
+use Rattle.field.specs.Place.{reportedPlace, WithPlace}
+use Rattle.field.specs.declared.Fault.{Fault}
 use Rattle.value.specs.Value.{maxValueSize}
 use Rattle.message.specs.Layout.{maxNameLength}
 use Rattle.message.specs.Reader.{updateValueIn, entryIn, assignmentLength, updateLength}
 use Rattle.table.specs.Table.{TableMemory, maxEntries}
-use Rattle.protocol.specs.Copy.{CopyVerdict, refuse, ignore, storeNew, storeUpdate, CopyResult, CopyStart}
-use Rattle.answer.specs.declared.Answer.{Answer}
+use Rattle.protocol.specs.Copy.{CopyVerdict, refuse, ignore, storeNew, storeUpdate, CopyResult}
 use Rattle.client.specs.declared.Copied.{Copied}
 use Rattle.client.specs.declared.CopyDecision.{CopyDecision}
 use Rattle.client.specs.declared.CopyDecision.the-variants as D
 
 -- an answer, with the copy as the call leaves it
-abbrev pub copied : Copied → TableMemory → CopyResult
-copied a memory = record { number = a .number; taken = a .taken; revision = a .revision; memory = memory }
+abbrev pub copied : Copied → TableMemory → WithPlace CopyResult
+copied a memory = record { result = record { number = a .number; taken = a .taken; revision = a .revision; memory = memory }; place = a .place }
 
--- a fresh start's answer: 0 taken, 0 sent, no recipients
-abbrev pub copyStartOf : CopyStart → Answer
-copyStartOf s = record { number = s .number; recipients = 0; taken = 0; sent = 0 }
+-- "A refusal .. reports 0 bytes taken"; "0 is reported in every other case"
+abbrev pub refusedCopy : Fault → Copied
+refusedCopy fault = record { number = fault .number; revision = 0; taken = 0; place = reportedPlace fault }
+
+abbrev pub ignoredCopy : (taken revision : ℕ) → Copied
+ignoredCopy taken revision = record { number = ignored; revision = revision; taken = taken; place = 0 }
+
+abbrev pub storedCopy : (taken : ℕ) → Copied
+storedCopy taken = record { number = done; revision = 0; taken = taken; place = 0 }
 
 -- the decision on a message m
 abbrev pub copyVerdictOf : List ℕ → CopyDecision → CopyVerdict

@@ -21,7 +21,7 @@ ghost use mathlib.Core.Path.{_≡_};
 ghost use mathlib.Core.Bool.{true};
 ghost use Prim.Native.Nat.{ℕ, _+_, _≤_};
 ghost use lib.ListN.{length};
-ghost use Rattle.field.specs.Answer.{done, ignored};
+ghost use Rattle.answer.specs.Answers.{bareAnswer};
 ghost use Rattle.value.specs.Value.{maxValueSize};
 ghost use Rattle.message.specs.Layout.{maxNameLength};
 ghost use Rattle.message.specs.Lent.{lentEntry};
@@ -29,44 +29,49 @@ ghost use Rattle.message.specs.Reader.{idAllowed, parseAssignment};
 ghost use Rattle.table.specs.Table.{Holds, lent, entriesOf, storeEntry, parseHeldUpdate, maxEntries};
 ghost use Rattle.soundness.specs.Sound.{soundTable};
 ghost use Rattle.protocol.specs.Copy.{judgeCopyAssignment, judgeCopyUpdate, judgeUnsupported, judgeCopy};
-ghost use Rattle.protocol.specs.Copy.{executeCopy, copyMessage, copyFreshStart};
-ghost use Rattle.client.specs.Lent.{copied, copyStartOf, copyVerdictOf, Copyable, DecidesCopy};
+ghost use Rattle.protocol.specs.Copy.{copyFreshStart};
+ghost use Rattle.protocol.specs.Place.{executeCopyWithPlace, copyWithPlace};
+ghost use Rattle.client.specs.Lent.{copied, refusedCopy, ignoredCopy, storedCopy, copyVerdictOf, Copyable, DecidesCopy};
 
-// What reading a message into the copy answers: the number, the revision of 0x02, bytes taken.
+// What reading a message into the copy answers: the number, the revision of 0x02, bytes taken, and the place of the field that failed.
 #[repr(C)]
 pub struct Copied {
     pub number: u8,
     pub revision: u16,
     pub taken: usize,
+    pub place: usize,
 }
 
 fn refused(fault: Fault) -> Copied
-    ensures { λ r. ⌜ r ≡ record { number = fault .number; revision = 0; taken = 0 } ⌝ }
+    ensures { λ r. ⌜ r ≡ refusedCopy fault ⌝ }
 {
     Copied {
         number: fault.number,
         revision: 0,
         taken: 0,
+        place: field::reported_place(fault),
     }
 }
 
 fn ignored(taken: usize, revision: u16) -> Copied
-    ensures { λ r. ⌜ r ≡ record { number = ignored; revision = revision; taken = taken } ⌝ }
+    ensures { λ r. ⌜ r ≡ ignoredCopy taken revision ⌝ }
 {
     Copied {
         number: field::IGNORED,
         revision: revision,
         taken: taken,
+        place: 0,
     }
 }
 
 fn stored(taken: usize) -> Copied
-    ensures { λ r. ⌜ r ≡ record { number = done; revision = 0; taken = taken } ⌝ }
+    ensures { λ r. ⌜ r ≡ storedCopy taken ⌝ }
 {
     Copied {
         number: field::DONE,
         revision: 0,
         taken: taken,
+        place: 0,
     }
 }
 
@@ -240,7 +245,7 @@ fn perform(
     requires performable { ⌜ Copyable (now count) (now m) decision ⌝ }
     ensures { λ r.
         ⌜ copied r (lent (heads .exit) (bytes .exit) (now (count .exit)))
-        ≡ executeCopy (lent (heads .entry) (bytes .entry) (now (count .entry))) (copyVerdictOf (now (m .entry)) decision) ⌝ }
+        ≡ executeCopyWithPlace (lent (heads .entry) (bytes .entry) (now (count .entry))) (copyVerdictOf (now (m .entry)) decision) ⌝ }
 {
     match decision {
         CopyDecision::Refuse(fault) => refused(fault),
@@ -288,26 +293,26 @@ fn perform(
 // The empty copy: only the count is set.
 pub fn copy_fresh(heads: &[u16], bytes: &[u8], count: &mut u16) -> Answer
     ensures answer { λ r.
-        ⌜ r ≡ copyStartOf (copyFreshStart maxEntries (lent (heads .entry) (bytes .entry) (now (count .entry)))) ⌝ }
+        ⌜ r ≡ bareAnswer (copyFreshStart maxEntries (lent (heads .entry) (bytes .entry) (now (count .entry))) .number) ⌝ }
     ensures memory { λ _.
         ⌜ lent (heads .entry) (bytes .entry) (now (count .exit))
         ≡ copyFreshStart maxEntries (lent (heads .entry) (bytes .entry) (now (count .entry))) .memory ⌝ }
 {
     if heads.len() < table::HEADS_SIZE {
-        return answer::refused(fault_at(UNSOUND, 0));
+        return answer::bare(UNSOUND);
     }
     if bytes.len() < table::BYTES_SIZE {
-        return answer::refused(fault_at(UNSOUND, 0));
+        return answer::bare(UNSOUND);
     }
     *count = 0;
-    answer::done(0, 0, 0)
+    answer::bare(field::DONE)
 }
 
 // One message from the server.
 pub fn copy_receive(heads: &mut [u16], bytes: &mut [u8], count: &mut u16, m: &[u8]) -> Copied
     ensures { λ r.
         ⌜ copied r (lent (heads .exit) (bytes .exit) (now (count .exit)))
-        ≡ copyMessage maxEntries (lent (heads .entry) (bytes .entry) (now (count .entry))) (now (m .entry)) ⌝ }
+        ≡ copyWithPlace maxEntries (lent (heads .entry) (bytes .entry) (now (count .entry))) (now (m .entry)) ⌝ }
 {
     if !soundness::table_is_sound(heads, bytes, *count) {
         return refused(fault_at(UNSOUND, 0));

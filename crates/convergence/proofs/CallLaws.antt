@@ -17,12 +17,12 @@ use Rattle.value.specs.Value.{IsValue}
 use Rattle.message.specs.Layout.{Entry, WellFormed, updateKind, unsupportedKind, assignmentBytes, updateBytes, revisionBytes}
 use Rattle.table.specs.Names.{nameHeld}
 use Rattle.table.specs.Table.{entriesOf, defaultEntry, storeEntry, storeValue}
-use Rattle.answer.specs.Recipients.{Recipients, nobody, sender, allGreeted, isRecipient, recipientSet}
+use Rattle.recipients.specs.Recipients.{Recipients, nobody, sender, allGreeted, isRecipient, recipientSet}
 use Rattle.hello.specs.Hello.{helloAnswer}
 use Rattle.protocol.specs.Judge.{Call, leave, clientMessage, Verdict, refuse, ignore, readDone, openMark, closeMark, acceptHello, unsupportedRevision, storeNew, storeUpdate, protocolRevision, judge}
 use Rattle.protocol.specs.Step.{ServerMemory, LentCall, CallResult, answer, withMark, withTable, execute, callStep}
 use Rattle.protocol.specs.Run.{addressedByCall, leavesOrUpdates}
-use Rattle.answer.proofs.RecipientLaws.{recipient-bit}
+use Rattle.recipients.proofs.RecipientLaws.{recipient-bit}
 use Rattle.table.proofs.TabulateLaws.{length-entries}
 use Rattle.soundness.proofs.StoredLaws.{stored-new, stored-value}
 use Rattle.protocol.proofs.JudgeLaws.{SentTo, local-write, client-update, VerdictIs, verdict-is}

@@ -15,7 +15,7 @@ use Rattle.field.proofs.ChoiceLaws.{by-test, pick-true}
 use Rattle.message.specs.Layout.{Entry, helloKind, revisionBytes}
 use Rattle.table.specs.Table.{entriesOf}
 use Rattle.soundness.proofs.SoundLaws.{marks-facts}
-use Rattle.answer.specs.Recipients.{sender, recipientSet}
+use Rattle.recipients.specs.Recipients.{sender, recipientSet}
 use Rattle.hello.specs.Hello.{helloAnswer}
 use Rattle.protocol.specs.Judge.{clientMessage, Verdict, refuse, refuseCall, acceptHello, protocolRevision, judgeHello, judgeKind, judgeMessage, judge}
 use Rattle.protocol.specs.Step.{ServerMemory, CallResult, withMark, execute, callStep}

@@ -3,3 +3,4 @@ pub mod OctetsLaws
 pub mod OverwriteLaws
 pub mod FieldLaws
 pub mod EqualLaws
+pub mod PlaceLaws

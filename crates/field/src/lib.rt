@@ -7,6 +7,7 @@ ghost use Prim.Native.Nat.{_+_, _^_, _≤_, _<_};
 ghost use lib.ListN.{length};
 ghost use Rattle.field.specs.Octets.{encode16, overwriteAt, bytesEqual};
 ghost use Rattle.field.specs.Field.{faultAt, faultOf, octetSize, octetAt, numberSize, numberAt, movedBy};
+ghost use Rattle.field.specs.Place.{reportedPlace};
 
 // The numbers that a call answers with. specs/Answer.antt has each with its meaning.
 pub const DONE: u8 = 0;
@@ -115,6 +116,19 @@ pub fn fault_of(p: Parsed) -> Fault
         Parsed::Refused(fault) => fault,
         Parsed::Taken(_) => fault_at(DONE, 0),
     }
+}
+
+// The place that an answer tells of a refusal: with 7 to 10, and else 0.
+pub fn reported_place(fault: Fault) -> usize
+    ensures { λ r. ⌜ r ≡ reportedPlace fault ⌝ }
+{
+    if fault.number < UNKNOWN_TYPE {
+        return 0;
+    }
+    if TOO_LONG < fault.number {
+        return 0;
+    }
+    fault.place
 }
 
 // A reader's answer for bytes that begin at `from`, with a refusal's place counted from the start.

@@ -1,50 +1,44 @@
--- Messages and the writer's answers as the C structs have them: a field that an answer does not use is 0.
+-- A message's fields as the C struct has them: a field that an answer does not use is 0.
 use Prim.Native.Nat.{ℕ}
-use mathlib.Core.List.{List}
+use Rattle.field.specs.Place.{WithPlace}
 use Rattle.message.specs.Layout.{keepAliveKind, helloKind, unsupportedKind, helloCompleteKind, assignmentKind, updateKind}
-use Rattle.message.specs.Reader.{numberOf, takenOf}
+use Rattle.message.specs.Reader.{numberOf, takenOf, placeOf}
 use Rattle.message.specs.declared.Decoded.{Decoded}
 use Rattle.message.specs.declared.Decoded.the-variants as D
-use Rattle.writer.specs.Writer.{WriteResult}
-use Rattle.answer.specs.declared.Answer.{Answer}
 use Rattle.fields.specs.declared.Fields.{Fields}
 
--- an answer, with the output as the call leaves it
-pub record EncodeResult : Type 0 where
-  pub answer : Answer
-  pub output : List ℕ
+-- the answer's number, the message's fields, and the bytes taken
+pub record MessageFields : Type 0 where
+  pub number : ℕ
+  pub kind : ℕ
+  pub type : ℕ
+  pub revision : ℕ
+  pub id : ℕ
+  pub entryNumber : ℕ
+  pub taken : ℕ
+  pub nameLength : ℕ
+  pub valueLength : ℕ
 
-abbrev pub encoded : Answer → List ℕ → EncodeResult
-encoded answer out = record { answer = answer; output = out }
-
--- "Opening, leaving, local calls and the message writer take 0", and the writer has no recipients
-abbrev pub writerAnswer : (number sent : ℕ) → Answer
-writerAnswer number sent = record { number = number; recipients = 0; taken = 0; sent = sent }
-
--- the writer's result, without the place of a refusal
-abbrev pub encodeResult : WriteResult → EncodeResult
-encodeResult w = encoded (writerAnswer (w .number) (w .sent)) (w .output)
-
-abbrev pub fields : (number kind type revision id entryNumber taken nameLength valueLength : ℕ) → Fields
+abbrev pub fields : (number kind type revision id entryNumber taken nameLength valueLength : ℕ) → MessageFields
 fields number kind type revision id entryNumber taken nameLength valueLength =
     record {
       number = number;
       kind = kind;
-      «type_code» = type;
+      type = type;
       revision = revision;
       id = id;
-      «entry_number» = entryNumber;
+      entryNumber = entryNumber;
       taken = taken;
-      «name_length» = nameLength;
-      «value_length» = valueLength;
+      nameLength = nameLength;
+      valueLength = valueLength;
     }
 
 -- of a message with no entry in it
-abbrev pub loneFields : Decoded → ℕ → ℕ → Fields
+abbrev pub loneFields : Decoded → ℕ → ℕ → MessageFields
 loneFields d kind revision = fields (numberOf d) kind 0 revision 0 0 (takenOf d) 0 0
 
 -- with a refusal every field but the number is 0, and so is an update's type, since the message carries none
-abbrev pub fieldsOf : Decoded → Fields
+abbrev pub fieldsOf : Decoded → MessageFields
 fieldsOf (D.Refused fault) = fields (numberOf (D.Refused fault)) 0 0 0 0 0 0 0 0
 fieldsOf D.KeepAlive = loneFields D.KeepAlive keepAliveKind 0
 fieldsOf (D.Hello revision) = loneFields (D.Hello revision) helloKind revision
@@ -56,3 +50,25 @@ fieldsOf (D.Assignment nameLength type id number valueLength) =
 fieldsOf (D.Update id number valueLength) =
     let d = D.Update id number valueLength in
     fields (numberOf d) updateKind 0 0 id number (takenOf d) 0 valueLength
+
+-- with the place of the field that failed
+abbrev pub fieldsWithPlace : Decoded → WithPlace MessageFields
+fieldsWithPlace d = record { result = fieldsOf d; place = placeOf d }
+
+-- C's struct
+abbrev pub fieldsIn : Fields → WithPlace MessageFields
+fieldsIn r =
+    record {
+      result =
+          fields
+          (r .number)
+          (r .kind)
+          (r .«type_code»)
+          (r .revision)
+          (r .id)
+          (r .«entry_number»)
+          (r .taken)
+          (r .«name_length»)
+          (r .«value_length»);
+      place = r .place;
+    }

@@ -1,5 +1,4 @@
-// Messages as C's structs: fields become a message, and a message becomes fields. No table is lent.
-use answer::Answer;
+// A message's fields as C's struct. No table is lent.
 use field::DONE;
 use field::Fault;
 use message::ASSIGNMENT_FIXED;
@@ -7,16 +6,15 @@ use message::Decoded;
 use message::KIND_SIZE;
 use message::REVISION_LENGTH;
 use message::UPDATE_VALUE_START;
-use writer::Encoded;
 ghost use mathlib.Core.Path.{_≡_};
 ghost use Prim.Native.Nat.{_≤_};
 ghost use Rattle.field.specs.Answer.{done};
+ghost use Rattle.field.specs.Place.{reportedPlace};
 ghost use Rattle.message.specs.Layout.{longestAssignment};
 ghost use Rattle.message.specs.Reader.{parseMessage, takenOf};
-ghost use Rattle.writer.specs.Writer.{lentFields, check, writeResult, numberOf, sentOf};
-ghost use Rattle.fields.specs.Fields.{writerAnswer, encoded, encodeResult, fields, fieldsOf};
+ghost use Rattle.fields.specs.Fields.{fields, fieldsWithPlace, fieldsIn};
 
-// A message's fields; those that its kind lacks are 0.
+// A message's fields, those that its kind lacks being 0; and the place of the field that failed.
 #[repr(C)]
 pub struct Fields {
     pub number: u8,
@@ -28,50 +26,12 @@ pub struct Fields {
     pub taken: usize,
     pub name_length: usize,
     pub value_length: usize,
-}
-
-fn answer_encoded(e: Encoded) -> Answer
-    ensures { λ r. ⌜ r ≡ writerAnswer (numberOf e) (sentOf e) ⌝ }
-{
-    match e {
-        Encoded::Refused(fault) => answer::refused(fault),
-        Encoded::Sent(sent) => answer::done(0, 0, sent),
-    }
-}
-
-// One message from its fields.
-pub fn encode(
-    kind: u8,
-    revision: u16,
-    name: &[u8],
-    type_code: u8,
-    id: u16,
-    entry_number: u16,
-    value: &[u8],
-    out: &mut [u8],
-) -> Answer
-    ensures { λ r.
-        ⌜ encoded r (now (out .exit))
-        ≡ encodeResult
-        (writeResult (check (lentFields kind revision (name .entry) «type_code» id «entry_number» (value .entry)))
-        (now (out .entry))) ⌝ }
-{
-    let encoded = writer::write_message(
-        kind,
-        revision,
-        name,
-        type_code,
-        id,
-        entry_number,
-        value,
-        out,
-    );
-    answer_encoded(encoded)
+    pub place: usize,
 }
 
 // A message of a kind with no entry.
 fn lone_fields(kind: u8, revision: u16, taken: usize) -> Fields
-    ensures { λ r. ⌜ r ≡ fields done kind 0 revision 0 0 taken 0 0 ⌝ }
+    ensures { λ r. ⌜ fieldsIn r ≡ record { result = fields done kind 0 revision 0 0 taken 0 0; place = 0 } ⌝ }
 {
     Fields {
         number: DONE,
@@ -83,6 +43,7 @@ fn lone_fields(kind: u8, revision: u16, taken: usize) -> Fields
         taken: taken,
         name_length: 0,
         value_length: 0,
+        place: 0,
     }
 }
 
@@ -96,7 +57,9 @@ fn entry_fields(
     name_length: usize,
     value_length: usize,
 ) -> Fields
-    ensures { λ r. ⌜ r ≡ fields done kind «type_code» 0 id «entry_number» taken «name_length» «value_length» ⌝ }
+    ensures { λ r.
+        ⌜ fieldsIn r
+        ≡ record { result = fields done kind «type_code» 0 id «entry_number» taken «name_length» «value_length»; place = 0 } ⌝ }
 {
     Fields {
         number: DONE,
@@ -108,11 +71,12 @@ fn entry_fields(
         taken: taken,
         name_length: name_length,
         value_length: value_length,
+        place: 0,
     }
 }
 
 fn refused_fields(fault: Fault) -> Fields
-    ensures { λ r. ⌜ r ≡ fields (fault .number) 0 0 0 0 0 0 0 0 ⌝ }
+    ensures { λ r. ⌜ fieldsIn r ≡ record { result = fields (fault .number) 0 0 0 0 0 0 0 0; place = reportedPlace fault } ⌝ }
 {
     Fields {
         number: fault.number,
@@ -124,13 +88,14 @@ fn refused_fields(fault: Fault) -> Fields
         taken: 0,
         name_length: 0,
         value_length: 0,
+        place: field::reported_place(fault),
     }
 }
 
 // A decoded message's fields.
 fn decoded_fields(d: Decoded) -> Fields
     requires { ⌜ takenOf d ≤ longestAssignment ⌝ }
-    ensures { λ r. ⌜ r ≡ fieldsOf d ⌝ }
+    ensures { λ r. ⌜ fieldsIn r ≡ fieldsWithPlace d ⌝ }
 {
     match d {
         Decoded::Refused(fault) => refused_fields(fault),
@@ -175,7 +140,7 @@ fn decoded_fields(d: Decoded) -> Fields
 
 // One message's fields, any kind and ID; an update's type is given.
 pub fn decode(bytes: &[u8], update_type: u8) -> Fields
-    ensures { λ r. ⌜ r ≡ fieldsOf (parseMessage «update_type» (now (bytes .entry))) ⌝ }
+    ensures { λ r. ⌜ fieldsIn r ≡ fieldsWithPlace (parseMessage «update_type» (now (bytes .entry))) ⌝ }
 {
     let decoded = message::read_message(bytes, update_type);
     decoded_fields(decoded)

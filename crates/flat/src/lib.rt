@@ -4,12 +4,13 @@ use field::DONE;
 use scalar::Scalar;
 ghost use mathlib.Core.Path.{_≡_};
 ghost use mathlib.Core.List.{[]};
+ghost use Rattle.answer.specs.Answers.{bareAnswer};
 ghost use Rattle.table.specs.Table.{lent, maxEntries};
 ghost use Rattle.protocol.specs.Judge.{openConnection, leave, localWrite};
-ghost use Rattle.protocol.specs.Step.{callStep, freshStart, readScalar};
-ghost use Rattle.protocol.specs.Lent.{lentServer, lentCall, answered, startOf};
+ghost use Rattle.protocol.specs.Step.{freshStart, readScalar};
+ghost use Rattle.protocol.specs.Place.{stepWithPlace};
+ghost use Rattle.protocol.specs.Lent.{lentServer, lentCall, answered};
 ghost use Rattle.protocol.specs.Copy.{copyFreshStart};
-ghost use Rattle.client.specs.Lent.{copyStartOf};
 ghost use Rattle.flat.specs.Answers.{scalarAnswer};
 
 // What reading an entry answers: 0 a Boolean is found, 1 a Double, 2 neither.
@@ -24,7 +25,7 @@ pub struct ScalarAnswer {
 // The two promises of a fresh start as one.
 pub fn fresh_flat(flat: &[u16], bytes: &[u8], count: &mut u16, marks: &mut [u8]) -> Answer
     ensures { λ r.
-        ⌜ (r ≡ startOf (freshStart maxEntries (lentServer (flat .entry) (bytes .entry) (now (count .entry)) (marks .entry))))
+        ⌜ (r ≡ bareAnswer (freshStart maxEntries (lentServer (flat .entry) (bytes .entry) (now (count .entry)) (marks .entry)) .number))
         × (lentServer (flat .entry) (bytes .entry) (now (count .exit)) (marks .exit)
         ≡ freshStart maxEntries (lentServer (flat .entry) (bytes .entry) (now (count .entry)) (marks .entry)) .memory) ⌝ }
 {
@@ -40,7 +41,7 @@ pub fn open_flat(
 ) -> Answer
     ensures { λ r.
         ⌜ answered r (lentServer (flat .entry) (bytes .entry) (now (count .exit)) (marks .exit)) []
-        ≡ callStep maxEntries (lentServer (flat .entry) (bytes .entry) (now (count .entry)) (marks .entry))
+        ≡ stepWithPlace maxEntries (lentServer (flat .entry) (bytes .entry) (now (count .entry)) (marks .entry))
         (record { call = openConnection connection; output = [] }) ⌝ }
 {
     server::open(flat, bytes, *count, marks, connection)
@@ -55,7 +56,7 @@ pub fn leave_flat(
 ) -> Answer
     ensures { λ r.
         ⌜ answered r (lentServer (flat .entry) (bytes .entry) (now (count .exit)) (marks .exit)) []
-        ≡ callStep maxEntries (lentServer (flat .entry) (bytes .entry) (now (count .entry)) (marks .entry))
+        ≡ stepWithPlace maxEntries (lentServer (flat .entry) (bytes .entry) (now (count .entry)) (marks .entry))
         (record { call = leave connection; output = [] }) ⌝ }
 {
     server::leave_connection(flat, bytes, *count, marks, connection)
@@ -72,7 +73,7 @@ pub fn write_flat(
 ) -> Answer
     ensures { λ r.
         ⌜ answered r (lentServer (flat .exit) (bytes .exit) (now (count .exit)) (marks .entry)) (now (out .exit))
-        ≡ callStep maxEntries (lentServer (flat .entry) (bytes .entry) (now (count .entry)) (marks .entry))
+        ≡ stepWithPlace maxEntries (lentServer (flat .entry) (bytes .entry) (now (count .entry)) (marks .entry))
         (lentCall (localWrite id (now (value .entry))) (out .entry)) ⌝ }
 {
     server::write(flat, bytes, *count, marks, id, value, out)
@@ -121,7 +122,7 @@ pub fn read_flat(flat: &[u16], bytes: &[u8], count: &mut u16, id: u16) -> Scalar
 // A fresh start of a copy, with its two promises as one.
 pub fn copy_fresh_flat(flat: &[u16], bytes: &[u8], count: &mut u16) -> Answer
     ensures { λ r.
-        ⌜ (r ≡ copyStartOf (copyFreshStart maxEntries (lent (flat .entry) (bytes .entry) (now (count .entry)))))
+        ⌜ (r ≡ bareAnswer (copyFreshStart maxEntries (lent (flat .entry) (bytes .entry) (now (count .entry))) .number))
         × (lent (flat .entry) (bytes .entry) (now (count .exit))
         ≡ copyFreshStart maxEntries (lent (flat .entry) (bytes .entry) (now (count .entry))) .memory) ⌝ }
 {

@@ -8,7 +8,7 @@ use Rattle.message.specs.Layout.{maxNameLength}
 use Rattle.message.specs.Reader.{nameIn, valueIn, updateValueIn, assignmentLength, updateLength}
 use Rattle.table.specs.Table.{maxEntries}
 use Rattle.soundness.specs.Sound.{connections}
-use Rattle.answer.specs.Recipients.{allGreeted, otherGreeted}
+use Rattle.recipients.specs.Recipients.{allGreeted, otherGreeted}
 use Rattle.protocol.specs.Judge.{Verdict, refuse, ignore, acceptHello, unsupportedRevision, openMark, closeMark, storeNew, storeUpdate, newEntry}
 use Rattle.judge.specs.declared.Decision.{Decision}
 use Rattle.judge.specs.declared.Decision.the-variants as D

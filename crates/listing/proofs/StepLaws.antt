@@ -15,7 +15,7 @@ use Rattle.message.specs.declared.AssignmentRead.the-variants as A
 use Rattle.message.specs.declared.UpdateRead.{UpdateRead}
 use Rattle.message.specs.declared.UpdateRead.the-variants as U
 use Rattle.message.proofs.TakenLaws.{AssignmentIs, assignment-is, UpdateIs, update-is}
-use Rattle.answer.specs.Recipients.{Recipients}
+use Rattle.recipients.specs.Recipients.{Recipients}
 use Rattle.protocol.specs.Judge.{clientMessage, Verdict, refuse, ignore, acceptHello, unsupportedRevision, storeNew, storeUpdate, judge, judgeKind, judgeMessage, judgeHello, judgeAssignment, judgeUpdate}
 use Rattle.protocol.specs.Step.{ServerMemory, CallResult, callStep, execute, refusal}
 

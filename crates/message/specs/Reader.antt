@@ -10,6 +10,8 @@ use Rattle.field.specs.Answer.{done, incomplete, unknownKind, wrongId, unknownI
 use Rattle.field.specs.Choice.{pick, demand}
 use Rattle.field.specs.Octets.{decode16}
 use Rattle.field.specs.Field.{faultAt, demandBytes, andThen}
+use Rattle.field.specs.Place.{reportedPlace}
+use Rattle.field.specs.declared.Fault.{Fault}
 use Rattle.field.specs.declared.Parsed.{Parsed}
 use Rattle.text.specs.Text.{prefixSize}
 use Rattle.value.specs.Value.{knownType}
@@ -78,8 +80,12 @@ abbrev pub ofAssignment : AssignmentRead → Decoded
 ofAssignment (A.Refused fault) = D.Refused fault
 ofAssignment (A.Assignment nameLength type id number valueLength) = D.Assignment nameLength type id number valueLength
 
+-- "With .. a type given as a number, it is 0": an update carries no type, so one that is not known is at no byte of the message
+abbrev pub typeGiven : Fault → Fault
+typeGiven fault = faultAt (fault .number) (pick (eqb (fault .number) unknownType) 0 (fault .place))
+
 abbrev pub ofUpdate : UpdateRead → Decoded
-ofUpdate (U.Refused fault) = D.Refused fault
+ofUpdate (U.Refused fault) = D.Refused (typeGiven fault)
 ofUpdate (U.Update id number valueLength) = D.Update id number valueLength
 
 -- a message by its kind
@@ -107,6 +113,16 @@ numberOf (D.Unsupported revision) = done
 numberOf D.HelloComplete = done
 numberOf (D.Assignment nameLength type id number valueLength) = done
 numberOf (D.Update id number valueLength) = done
+
+-- the place of the field that failed, as an answer tells it
+abbrev pub placeOf : Decoded → ℕ
+placeOf (D.Refused fault) = reportedPlace fault
+placeOf D.KeepAlive = 0
+placeOf (D.Hello revision) = 0
+placeOf (D.Unsupported revision) = 0
+placeOf D.HelloComplete = 0
+placeOf (D.Assignment nameLength type id number valueLength) = 0
+placeOf (D.Update id number valueLength) = 0
 
 -- an assignment's name and value, and an update's value, cut out of the message: a value ends with the message
 abbrev pub nameIn : ℕ → List ℕ → List ℕ

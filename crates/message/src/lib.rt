@@ -16,7 +16,7 @@ ghost use lib.ListN.{length};
 ghost use Rattle.message.specs.Layout.{assignmentNameStart, numberBehindName};
 ghost use Rattle.message.specs.Reader.{idAllowed, parseBehindId, parseAfterName, parseAssignment};
 ghost use Rattle.message.specs.Reader.{parseBehindUpdateId, parseUpdate, parseRevision};
-ghost use Rattle.message.specs.Reader.{ofAssignment, ofUpdate, parseMessage, numberOf, takenOf, contents, ReadingIs};
+ghost use Rattle.message.specs.Reader.{ofAssignment, typeGiven, ofUpdate, parseMessage, numberOf, takenOf, contents, ReadingIs};
 
 // Kinds of messages.
 pub const KEEP_ALIVE: u8 = 0x00;
@@ -222,11 +222,21 @@ fn decoded_assignment(a: AssignmentRead) -> Decoded
     }
 }
 
+// A fault of an update whose type is given: a type that is not known is at no byte of the message.
+fn type_given(fault: Fault) -> Fault
+    ensures { λ r. ⌜ r ≡ typeGiven fault ⌝ }
+{
+    if fault.number == UNKNOWN_TYPE {
+        return fault_at(UNKNOWN_TYPE, 0);
+    }
+    fault
+}
+
 fn decoded_update(u: UpdateRead) -> Decoded
     ensures { λ r. ⌜ r ≡ ofUpdate u ⌝ }
 {
     match u {
-        UpdateRead::Refused(fault) => Decoded::Refused(fault),
+        UpdateRead::Refused(fault) => Decoded::Refused(type_given(fault)),
         UpdateRead::Update {
             id,
             number,

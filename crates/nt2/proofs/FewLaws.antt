@@ -7,16 +7,17 @@ use lib.ListN.{length}
 use borrow.Author.Tests.{lt-leb}
 use Rattle.field.specs.Choice.{pick}
 use Rattle.table.specs.Table.{maxEntries, tableMemory}
+use Rattle.answer.specs.Answers.{bareAnswer}
 use Rattle.heads.specs.Heads.{headNumbers}
 use Rattle.soundness.specs.Sound.{largeEnough, soundTable}
 use Rattle.protocol.specs.Judge.{Call, openConnection, leave, clientMessage, localCreate, localWrite, readEntry}
 use Rattle.protocol.specs.Step.{LentCall, soundFor, callStep, freshStart, readScalar}
-use Rattle.protocol.specs.Lent.{serverMemory, answered, startOf}
 use Rattle.protocol.specs.Copy.{executeCopy, copyMessage, copyFreshStart}
+use Rattle.protocol.specs.Place.{callPlace, stepWithPlace, copyPlace, copyWithPlace}
+use Rattle.protocol.specs.Lent.{serverMemory, answered}
 use Rattle.client.specs.Lent.{copied}
 use Rattle.nt2.proofs.Results.{tooFew, copiedNothing, readNothing}
 use Rattle.flat.specs.Answers.{scalarAnswer}
-use Rattle.client.specs.Lent.{copyStartOf}
 
 module _ (heads bytes : List ℕ) (count : ℕ) (few : length heads < headNumbers) where
   table-few : soundTable maxEntries (tableMemory heads bytes count) ≡ false
@@ -27,16 +28,16 @@ module _ (heads bytes : List ℕ) (count : ℕ) (few : length heads < headNumber
   unfolding readScalar pick
   read-few id = rw table-few
 
-  pub copy-few : (message : List ℕ) → copied (copiedNothing) (tableMemory heads bytes count) ≡ copyMessage maxEntries (tableMemory heads bytes count) message
-  unfolding copyMessage executeCopy pick
+  pub copy-few : (message : List ℕ) → copied (copiedNothing) (tableMemory heads bytes count) ≡ copyWithPlace maxEntries (tableMemory heads bytes count) message
+  unfolding copyMessage executeCopy copyPlace pick
   copy-few message = rw table-few
 
-  pub copy-fresh-few : (tooFew ≡ copyStartOf (copyFreshStart maxEntries (tableMemory heads bytes count))) × (tableMemory heads bytes count ≡ copyFreshStart maxEntries (tableMemory heads bytes count) .memory)
+  pub copy-fresh-few : (tooFew ≡ bareAnswer (copyFreshStart maxEntries (tableMemory heads bytes count) .number)) × (tableMemory heads bytes count ≡ copyFreshStart maxEntries (tableMemory heads bytes count) .memory)
   unfolding copyFreshStart largeEnough pick
   copy-fresh-few = (rw (lt-leb headNumbers (length heads) few), rw (lt-leb headNumbers (length heads) few))
 
   module _ (marks : List ℕ) where
-    pub fresh-few : (tooFew ≡ startOf (freshStart maxEntries (serverMemory heads bytes count marks))) × (serverMemory heads bytes count marks ≡ freshStart maxEntries (serverMemory heads bytes count marks) .memory)
+    pub fresh-few : (tooFew ≡ bareAnswer (freshStart maxEntries (serverMemory heads bytes count marks) .number)) × (serverMemory heads bytes count marks ≡ freshStart maxEntries (serverMemory heads bytes count marks) .memory)
     unfolding freshStart largeEnough pick
     fresh-few = (rw (lt-leb headNumbers (length heads) few), rw (lt-leb headNumbers (length heads) few))
 
@@ -48,6 +49,6 @@ module _ (heads bytes : List ℕ) (count : ℕ) (few : length heads < headNumber
     sound-few (localWrite id value) = rw table-few
     sound-few (readEntry id) = table-few
 
-    pub call-few : (k : LentCall) → answered (tooFew) (serverMemory heads bytes count marks) (k .output) ≡ callStep maxEntries (serverMemory heads bytes count marks) k
-    unfolding callStep pick
+    pub call-few : (k : LentCall) → answered (tooFew) (serverMemory heads bytes count marks) (k .output) ≡ stepWithPlace maxEntries (serverMemory heads bytes count marks) k
+    unfolding callStep callPlace pick
     call-few k = rw (sound-few (k .call))

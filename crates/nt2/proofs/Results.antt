@@ -9,6 +9,7 @@ use denote.Laws.{Is}
 use denote.Struct.Laws as LL
 use Rattle.field.specs.Answer.{unsound}
 use Rattle.scalar.specs.declared.Scalar.the-variants.{Refused}
+use Rattle.answer.specs.Answers.{bareAnswer}
 use Rattle.answer.specs.declared.Answer.{Answer}
 use Rattle.answer.proofs.Answer as A
 use Rattle.answer.proofs.Answer.Laws as A′
@@ -21,16 +22,16 @@ use Rattle.flat.proofs.ScalarAnswer as S
 use Rattle.flat.proofs.ScalarAnswer.Laws as S′
 
 abbrev pub tooFew : Answer
-tooFew = record { number = unsound; recipients = 0; taken = 0; sent = 0 }
+tooFew = bareAnswer unsound
 
 pub tooFew-is : Is A.the-row tooFew (A′.lowered tooFew ∷ [])
-tooFew-is = LL.owes A.the-type A′.the-laws tooFew ((refl, lit< tt), ((refl, lit< tt), ((refl, lit< tt), ((refl, lit< tt), tt))))
+tooFew-is = LL.owes A.the-type A′.the-laws tooFew ((refl, lit< tt), ((refl, lit< tt), ((refl, lit< tt), ((refl, lit< tt), ((refl, lit< tt), tt)))))
 
 abbrev pub copiedNothing : Copied
-copiedNothing = record { number = unsound; revision = 0; taken = 0 }
+copiedNothing = record { number = unsound; revision = 0; taken = 0; place = 0 }
 
 pub copiedNothing-is : Is C.the-row copiedNothing (C′.lowered copiedNothing ∷ [])
-copiedNothing-is = LL.owes C.the-type C′.the-laws copiedNothing ((refl, lit< tt), ((refl, lit< tt), ((refl, lit< tt), tt)))
+copiedNothing-is = LL.owes C.the-type C′.the-laws copiedNothing ((refl, lit< tt), ((refl, lit< tt), ((refl, lit< tt), ((refl, lit< tt), tt))))
 
 abbrev pub readNothing : ScalarAnswer
 readNothing = scalarAnswer (Refused unsound)

@@ -6,6 +6,7 @@ use mathlib.Core.Path.{_≡_, refl, sym, ap, subst, _∙_}
 use mathlib.Core.Logic.{_⊎_}
 use lib.ListN.{length, drop}
 use Rattle.field.specs.Answer.{done, ignored}
+use Rattle.field.specs.Place.{WithPlace}
 use Rattle.table.specs.Table.{TableMemory, maxEntries}
 use Rattle.protocol.specs.Step.{ServerMemory, LentCall, CallResult, callStep, freshStart}
 use Rattle.protocol.specs.Run.{memoryAfterRun, afterStartAndCalls, addressedBytes, helloCall, StaysWithoutOwnUpdate}
@@ -18,7 +19,7 @@ use Rattle.convergence.proofs.RunLaws.{run-append}
 use Rattle.convergence.proofs.Theorem.{demand-3}
 use Rattle.client.specs.declared.Copied.{Copied}
 use Rattle.client.specs.Lent.{copied}
-use Rattle.nt2.specs.Lent.{HeadsTable, HeadsServer, tableOf, serverOf, HeadsResult, HeadsCopyResult, headsCopied, headsCopyMessage}
+use Rattle.nt2.specs.Lent.{HeadsTable, HeadsServer, tableOf, serverOf, WithPast, headsCopied, headsCopyMessage}
 use Rattle.nt2.specs.Demand.{Made, made, Run, no-more, called, read, addressed, Stays, Reading, begun, taken, ReadsToSameEntries, ExportedDemand3}
 
 -- ---- a run
@@ -29,12 +30,12 @@ data Steps : ServerMemory → List Made → ServerMemory → Type 0 where
   step : {m end : ServerMemory} {rest : List Made} (k : Made) → k .result ≡ callStep maxEntries m (k .call)
       → Steps (callStep maxEntries m (k .call) .memory) rest end → Steps m (k ∷ rest) end
 
-from-result : {x y : HeadsResult} {ks : List Made} {end : ServerMemory} → x ≡ y → Steps (x .result .memory) ks end → Steps (y .result .memory) ks end
+from-result : {x y : WithPast (WithPlace CallResult)} {ks : List Made} {end : ServerMemory} → x ≡ y → Steps (x .result .result .memory) ks end → Steps (y .result .result .memory) ks end
 from-result e s = rw e at s
 
 steps-of : {m end : HeadsServer} {ks : List Made} → Run m ks end → Steps (serverOf m) ks (serverOf end)
 steps-of no-more = Steps.none
-steps-of (called k r out e rest) = Steps.step _ (ap (λ (x : HeadsResult). x .result) e) (from-result e (steps-of rest))
+steps-of (called k r out e rest) = Steps.step _ (ap (λ (x : WithPast (WithPlace CallResult)). x .result .result) e) (from-result e (steps-of rest))
 steps-of (read id r e rest) = rw (e .1) at (steps-of rest)
 
 callsOf : List Made → List LentCall
@@ -70,8 +71,8 @@ next {m} {left = left} (one-read h a more) _ = record { right = a; some = copy-p
 
 module _ (copy : HeadsTable) (bytes : List ℕ) (end : TableMemory) (all : ReadsInto maxEntries (tableOf copy) bytes end) where
   call-next : (m after : HeadsTable) (left : List ℕ) (r : Copied) → ReadsInto maxEntries (tableOf m) left end → 0 < length left
-      → headsCopied r after ≡ headsCopyMessage m left → Next left end (copied r (tableOf after))
-  call-next m after left r s h e = subst (λ (x : HeadsCopyResult). Next left end (x .result)) (sym e) (next s h)
+      → headsCopied r after ≡ headsCopyMessage m left → Next left end (copied r (tableOf after) .result)
+  call-next m after left r s h e = subst (λ (x : WithPast (WithPlace CopyResult)). Next left end (x .result .result)) (sym e) (next s h)
 
   still : {m : HeadsTable} {left : List ℕ} → Reading copy bytes m left → ReadsInto maxEntries (tableOf m) left end
   still begun = all

@@ -29,7 +29,7 @@ made call result = record { call = call; result = result }
 pub data Run : HeadsServer → List Made → HeadsServer → Type 0 where
   no-more : {m : HeadsServer} → Run m [] m
   called : {m after end : HeadsServer} {rest : List Made} (k : LentCall) (r : Answer) (out : List ℕ)
-      → headsAnswered r after out ≡ headsStep m k → Run after rest end → Run m (made k (answered r (serverOf after) out) ∷ rest) end
+      → headsAnswered r after out ≡ headsStep m k → Run after rest end → Run m (made k (answered r (serverOf after) out .result) ∷ rest) end
   read : {m end : HeadsServer} {after : HeadsTable} {rest : List Made} (id : ℕ) (r : ScalarAnswer)
       → EntryRead (m .table) id r after → Run (record { table = after; marks = m .marks }) rest end → Run m rest end
 

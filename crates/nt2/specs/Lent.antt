@@ -5,12 +5,15 @@ use mathlib.Core.Path.{_≡_}
 use denote.Ref.{RefT, now}
 use lib.ListN.{drop}
 use Rattle.table.specs.Table.{TableMemory, tableMemory, maxEntries}
+use Rattle.field.specs.Place.{WithPlace}
+use Rattle.answer.specs.Answers.{bareAnswer}
 use Rattle.answer.specs.declared.Answer.{Answer}
-use Rattle.protocol.specs.Step.{ServerMemory, LentCall, CallResult, callStep, freshStart, readScalar}
-use Rattle.protocol.specs.Lent.{answered, startOf}
-use Rattle.protocol.specs.Copy.{CopyResult, copyMessage, copyFreshStart}
+use Rattle.protocol.specs.Step.{ServerMemory, LentCall, CallResult, freshStart, readScalar}
+use Rattle.protocol.specs.Copy.{CopyResult, copyFreshStart}
+use Rattle.protocol.specs.Place.{stepWithPlace, copyWithPlace}
+use Rattle.protocol.specs.Lent.{answered}
 use Rattle.client.specs.declared.Copied.{Copied}
-use Rattle.client.specs.Lent.{copied, copyStartOf}
+use Rattle.client.specs.Lent.{copied}
 use Rattle.heads.specs.Heads.{flatHeads}
 use Rattle.heads.specs.declared.Head.{Head}
 use Rattle.flat.specs.Answers.{scalarAnswer}
@@ -48,20 +51,20 @@ pastTable t = drop maxEntries (t .heads)
 
 -- a fresh start: its answer, and memory afterwards
 abbrev pub Started : HeadsServer → Answer → HeadsServer → Type 0
-Started m r after = (r ≡ startOf (freshStart maxEntries (serverOf m))) × (serverOf after ≡ freshStart maxEntries (serverOf m) .memory)
+Started m r after = (r ≡ bareAnswer (freshStart maxEntries (serverOf m) .number)) × (serverOf after ≡ freshStart maxEntries (serverOf m) .memory)
 
--- a call's result beside the heads past the table
-pub record HeadsResult : Type 0 where
-  pub result : CallResult
+-- what a call answers and leaves, beside the heads past the table
+pub record WithPast (R : Type 0) : Type 0 where
+  pub result : R
   pub past : List Head
 
 -- an answer, with memory and output as the call leaves them
-abbrev pub headsAnswered : Answer → HeadsServer → (out : List ℕ) → HeadsResult
+abbrev pub headsAnswered : Answer → HeadsServer → (out : List ℕ) → WithPast (WithPlace CallResult)
 headsAnswered r m out = record { result = answered r (serverOf m) out; past = pastTable (m .table) }
 
 -- one call: the step on the numbers of the heads; "memory beyond the table" never changes
-abbrev pub headsStep : HeadsServer → LentCall → HeadsResult
-headsStep m k = record { result = callStep maxEntries (serverOf m) k; past = pastTable (m .table) }
+abbrev pub headsStep : HeadsServer → LentCall → WithPast (WithPlace CallResult)
+headsStep m k = record { result = stepWithPlace maxEntries (serverOf m) k; past = pastTable (m .table) }
 
 -- reading an entry
 abbrev pub EntryRead : HeadsTable → (id : ℕ) → ScalarAnswer → HeadsTable → Type 0
@@ -69,15 +72,11 @@ EntryRead t id r after = (r ≡ scalarAnswer (readScalar maxEntries (tableOf t) 
 
 -- a fresh start of a copy
 abbrev pub CopyStarted : HeadsTable → Answer → HeadsTable → Type 0
-CopyStarted t r after = (r ≡ copyStartOf (copyFreshStart maxEntries (tableOf t))) × (tableOf after ≡ copyFreshStart maxEntries (tableOf t) .memory)
+CopyStarted t r after = (r ≡ bareAnswer (copyFreshStart maxEntries (tableOf t) .number)) × (tableOf after ≡ copyFreshStart maxEntries (tableOf t) .memory)
 
 -- a message to the copy
-pub record HeadsCopyResult : Type 0 where
-  pub result : CopyResult
-  pub past : List Head
-
-abbrev pub headsCopied : Copied → HeadsTable → HeadsCopyResult
+abbrev pub headsCopied : Copied → HeadsTable → WithPast (WithPlace CopyResult)
 headsCopied r t = record { result = copied r (tableOf t); past = pastTable t }
 
-abbrev pub headsCopyMessage : HeadsTable → List ℕ → HeadsCopyResult
-headsCopyMessage t message = record { result = copyMessage maxEntries (tableOf t) message; past = pastTable t }
+abbrev pub headsCopyMessage : HeadsTable → List ℕ → WithPast (WithPlace CopyResult)
+headsCopyMessage t message = record { result = copyWithPlace maxEntries (tableOf t) message; past = pastTable t }

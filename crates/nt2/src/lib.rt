@@ -10,8 +10,8 @@ ghost use mathlib.Core.List.{[]};
 ghost use Rattle.protocol.specs.Judge.{openConnection, leave, clientMessage, localCreate, localWrite};
 ghost use Rattle.protocol.specs.Lent.{lentCall};
 ghost use Rattle.message.specs.Reader.{parseMessage};
-ghost use Rattle.writer.specs.Writer.{lentFields, check, writeResult};
-ghost use Rattle.fields.specs.Fields.{fieldsOf, encoded, encodeResult};
+ghost use Rattle.writer.specs.Writer.{lentFields, check, writeWithPlace, written};
+ghost use Rattle.fields.specs.Fields.{fieldsWithPlace, fieldsIn};
 ghost use Rattle.nt2.specs.Lent.{lent, lentTable, Started, headsAnswered, headsStep, EntryRead};
 ghost use Rattle.nt2.specs.Lent.{CopyStarted, headsCopied, headsCopyMessage};
 
@@ -21,6 +21,7 @@ const TOO_FEW: Answer = Answer {
     recipients: 0,
     taken: 0,
     sent: 0,
+    place: 0,
 };
 
 const NOTHING_READ: ScalarAnswer = ScalarAnswer {
@@ -34,6 +35,7 @@ const NOTHING_COPIED: Copied = Copied {
     number: UNSOUND,
     revision: 0,
     taken: 0,
+    place: 0,
 };
 
 #[no_mangle]
@@ -237,12 +239,11 @@ pub extern "C" fn nt2_encode(
     out: &mut [u8],
 ) -> Answer
     ensures { λ r.
-        ⌜ encoded r (now (out .exit))
-        ≡ encodeResult
-        (writeResult (check (lentFields kind revision (name .entry) «type_code» id «entry_number» (value .entry)))
-        (now (out .entry))) ⌝ }
+        ⌜ written r (now (out .exit))
+        ≡ writeWithPlace (check (lentFields kind revision (name .entry) «type_code» id «entry_number» (value .entry)))
+        (now (out .entry)) ⌝ }
 {
-    fields::encode(
+    writer::write_message(
         kind,
         revision,
         name,
@@ -257,7 +258,7 @@ pub extern "C" fn nt2_encode(
 // One message's fields, any kind and ID; an update's type is given.
 #[no_mangle]
 pub extern "C" fn nt2_decode(bytes: &[u8], update_type: u8) -> Fields
-    ensures { λ r. ⌜ r ≡ fieldsOf (parseMessage «update_type» (now (bytes .entry))) ⌝ }
+    ensures { λ r. ⌜ fieldsIn r ≡ fieldsWithPlace (parseMessage «update_type» (now (bytes .entry))) ⌝ }
 {
     fields::decode(bytes, update_type)
 }

@@ -1,7 +1,7 @@
 // What a verdict does: the answer, the output, and lent memory afterwards.
 use answer::Answer;
+use field::DONE;
 use field::OUTPUT_TOO_SHORT;
-use field::fault_at;
 use judge::Decision;
 use judge::MarkDecision;
 use message::ASSIGNMENT_FIXED;
@@ -15,13 +15,14 @@ ghost use Prim.Native.Nat.{ℕ, _+_, _≤_, _<_};
 ghost use mathlib.Core.List.{List};
 ghost use lib.ListN.{length, set};
 ghost use Rattle.field.specs.Answer.{done};
+ghost use Rattle.answer.specs.Answers.{bareAnswer};
 ghost use Rattle.table.specs.Table.{TableMemory, Holds, lent, maxEntries};
 ghost use Rattle.message.specs.Layout.{maxNameLength};
 ghost use Rattle.message.specs.Lent.{lentEntry};
-ghost use Rattle.answer.specs.Recipients.{Recipients, allGreeted, recipientSet};
+ghost use Rattle.recipients.specs.Recipients.{Recipients, allGreeted, recipientSet};
 ghost use Rattle.soundness.specs.Sound.{soundTable, connections};
 ghost use Rattle.protocol.specs.Judge.{acceptHello, unsupportedRevision, storeNew, storeUpdate};
-ghost use Rattle.protocol.specs.Step.{execute};
+ghost use Rattle.protocol.specs.Place.{executeWithPlace};
 ghost use Rattle.protocol.specs.Lent.{besideMarks, lentServer, answered};
 ghost use Rattle.judge.specs.Decision.{verdictOf, Performable, markVerdict, Markable};
 ghost use Rattle.value.specs.Value.{maxValueSize};
@@ -32,11 +33,11 @@ ghost use Rattle.sequence.specs.SequenceNumber.{start};
 // Another mark of a connection: nothing is sent.
 fn put_mark(marks: &mut [u8], c: usize, mark: u8) -> Answer
     requires { ⌜ (c < connections) × (connections ≤ length (now marks)) ⌝ }
-    ensures answer { λ r. ⌜ r ≡ record { number = done; recipients = 0; taken = 0; sent = 0 } ⌝ }
+    ensures answer { λ r. ⌜ r ≡ bareAnswer done ⌝ }
     ensures marks { λ _. ⌜ now (marks .exit) ≡ set (now (marks .entry)) c mark ⌝ }
 {
     marks[c] = mark;
-    answer::done(0, 0, 0)
+    answer::bare(DONE)
 }
 
 // A decision on opening or leaving.
@@ -46,7 +47,7 @@ pub fn perform_mark(marks: &mut [u8], c: usize, decision: MarkDecision) -> Answe
     ensures { λ r.
         ⌜ ((table : TableMemory) (out : List ℕ) →
         answered r (besideMarks table (marks .exit)) out
-        ≡ execute (besideMarks table (marks .entry)) out (markVerdict c decision)) ⌝ }
+        ≡ executeWithPlace (besideMarks table (marks .entry)) out (markVerdict c decision)) ⌝ }
 {
     match decision {
         MarkDecision::Refuse(fault) => answer::refused(fault),
@@ -70,13 +71,13 @@ fn greet(
     requires marks { ⌜ connections ≤ length (now marks) ⌝ }
     ensures { λ r.
         ⌜ answered r (lentServer (heads .entry) (bytes .entry) count (marks .exit)) (now (out .exit))
-        ≡ execute (lentServer (heads .entry) (bytes .entry) count (marks .entry)) (now (out .entry)) (acceptHello c) ⌝ }
+        ≡ executeWithPlace (lentServer (heads .entry) (bytes .entry) count (marks .entry)) (now (out .entry)) (acceptHello c) ⌝ }
 {
     let length = hello::hello_length(heads, bytes, count);
     if out.len() < length {
-        return answer::refused(fault_at(OUTPUT_TOO_SHORT, 0));
+        return answer::bare(OUTPUT_TOO_SHORT);
     }
-    let recipients = answer::only_sender(marks, c);
+    let recipients = recipients::only_sender(marks, c);
     let sent = hello::write_hello(heads, bytes, count, out);
     marks[c] = soundness::GREETED;
     answer::done(recipients, REVISION_LENGTH, sent)
@@ -88,12 +89,12 @@ fn turn_away(marks: &mut [u8], c: usize, out: &mut [u8]) -> Answer
     ensures { λ r.
         ⌜ ((table : TableMemory) →
         answered r (besideMarks table (marks .exit)) (now (out .exit))
-        ≡ execute (besideMarks table (marks .entry)) (now (out .entry)) (unsupportedRevision c)) ⌝ }
+        ≡ executeWithPlace (besideMarks table (marks .entry)) (now (out .entry)) (unsupportedRevision c)) ⌝ }
 {
     if out.len() < REVISION_LENGTH {
-        return answer::refused(fault_at(OUTPUT_TOO_SHORT, 0));
+        return answer::bare(OUTPUT_TOO_SHORT);
     }
-    let recipients = answer::only_sender(marks, c);
+    let recipients = recipients::only_sender(marks, c);
     let sent = encoder::write_revision(out, message::UNSUPPORTED, judge::REVISION);
     marks[c] = soundness::CLOSED;
     answer::done(recipients, REVISION_LENGTH, sent)
@@ -119,12 +120,12 @@ pub fn store_new(
     ensures { λ r.
         ⌜ ((marks : List ℕ) → recipients ≡ recipientSet allGreeted marks →
         answered r (record { table = lent (heads .exit) (bytes .exit) (now (count .exit)); marks = marks }) (now (out .exit))
-        ≡ execute (record { table = lent (heads .entry) (bytes .entry) (now (count .entry)); marks = marks }) (now (out .entry))
+        ≡ executeWithPlace (record { table = lent (heads .entry) (bytes .entry) (now (count .entry)); marks = marks }) (now (out .entry))
         (storeNew (lentEntry (name .entry) «type_code» start (value .entry)) taken)) ⌝ }
 {
     let id = *count;
     if out.len() < ASSIGNMENT_FIXED + name.len() + value.len() {
-        return answer::refused(fault_at(OUTPUT_TOO_SHORT, 0));
+        return answer::bare(OUTPUT_TOO_SHORT);
     }
     let number = SequenceNumber::start();
     let sent = encoder::write_assignment(out, name, type_code, id, number.0, value);
@@ -157,11 +158,11 @@ pub fn store_update(
     ensures { λ r.
         ⌜ ((count : ℕ) (marks : List ℕ) (to : Recipients) → recipients ≡ recipientSet to marks →
         answered r (record { table = lent (heads .exit) (bytes .exit) count; marks = marks }) (now (out .exit))
-        ≡ execute (record { table = lent (heads .entry) (bytes .entry) count; marks = marks }) (now (out .entry))
+        ≡ executeWithPlace (record { table = lent (heads .entry) (bytes .entry) count; marks = marks }) (now (out .entry))
         (storeUpdate id number (now (value .entry)) taken to)) ⌝ }
 {
     if out.len() < UPDATE_VALUE_START + value.len() {
-        return answer::refused(fault_at(OUTPUT_TOO_SHORT, 0));
+        return answer::bare(OUTPUT_TOO_SHORT);
     }
     let sent = encoder::write_update(out, id, number, value);
     table::store_value(heads, bytes, id as usize, number, value);
@@ -186,7 +187,7 @@ pub fn perform(
     requires performable { ⌜ Performable (now count) c (now m) decision ⌝ }
     ensures { λ r.
         ⌜ answered r (lentServer (heads .exit) (bytes .exit) (now (count .exit)) (marks .exit)) (now (out .exit))
-        ≡ execute (lentServer (heads .entry) (bytes .entry) (now (count .entry)) (marks .entry)) (now (out .entry))
+        ≡ executeWithPlace (lentServer (heads .entry) (bytes .entry) (now (count .entry)) (marks .entry)) (now (out .entry))
         (verdictOf c (now (m .entry)) decision) ⌝ }
 {
     match decision {
@@ -205,7 +206,7 @@ pub fn perform(
             let name = &m[ASSIGNMENT_NAME_START..name_end];
             let value = &m[value_at..taken];
             // the sender is not left out
-            let recipients = answer::other_greeted(marks, answer::NO_ONE);
+            let recipients = recipients::other_greeted(marks, recipients::NO_ONE);
             store_new(
                 heads,
                 bytes,
@@ -225,7 +226,7 @@ pub fn perform(
         } => {
             let taken = UPDATE_VALUE_START + value_length;
             let value = &m[UPDATE_VALUE_START..taken];
-            let recipients = answer::other_greeted(marks, c);
+            let recipients = recipients::other_greeted(marks, c);
             store_update(heads, bytes, id, number, value, taken, recipients, out)
         }
     }

@@ -19,7 +19,7 @@ use Rattle.writer.specs.Writer.{checkName}
 use Rattle.table.specs.Names.{holder, nameHeld, namesDiffer}
 use Rattle.table.specs.Table.{entryAt, tabulate, entriesOf, defaultEntry, headsWithEntry, bytesWithEntry, headsWithValue, bytesWithValue, storeEntry, storeValue}
 use Rattle.soundness.specs.Sound.{allBelow, soundEntry, largeEnough, soundTable, soundMarks}
-use Rattle.answer.specs.Recipients.{bitSet, testBit, recipientSet}
+use Rattle.recipients.specs.Recipients.{bitSet, testBit, recipientSet}
 use Rattle.hello.specs.Hello.{helloAnswer}
 use Rattle.protocol.specs.Judge.{Call, openConnection, leave, clientMessage, localCreate, localWrite, readEntry, judgeHello, judgeAssignment, judgeUpdate, judgeKind, judgeMessage, judgeCreate, judgeWrite, judge}
 use Rattle.protocol.specs.Step.{ServerMemory, LentCall, CallResult, execute, callStep, freshStart}

@@ -21,8 +21,8 @@ use Rattle.table.proofs.TabulateLaws.{length-entries}
 use Rattle.table.proofs.StoreLaws.{withNumberAndValue}
 use Rattle.soundness.specs.Sound.{largeEnough}
 use Rattle.soundness.proofs.StoredLaws.{stored-new, stored-value, entries-well-formed, entries-fit}
-use Rattle.answer.specs.Recipients.{Recipients, recipientSet}
-use Rattle.answer.proofs.RecipientLaws.{nobody-set, sender-set}
+use Rattle.recipients.specs.Recipients.{Recipients, recipientSet}
+use Rattle.recipients.proofs.RecipientLaws.{nobody-set, sender-set}
 use Rattle.hello.specs.Hello.{helloAnswer}
 use Rattle.hello.proofs.HelloLaws.{length-hello}
 use Rattle.protocol.specs.Judge.{openConnection, leave, localCreate, localWrite, protocolRevision, newId, newEntry, judgeCreate, judgeWrite, judge}

@@ -28,7 +28,7 @@ use Rattle.writer.specs.Writer.{checkName}
 use Rattle.writer.proofs.WriterLaws.{NameIs, name-is}
 use Rattle.table.specs.Names.{nameHeld}
 use Rattle.table.specs.Table.{defaultEntry}
-use Rattle.answer.specs.Recipients.{Recipients, allGreeted, otherGreeted}
+use Rattle.recipients.specs.Recipients.{Recipients, allGreeted, otherGreeted}
 use Rattle.message.proofs.RefusalLaws.{refusal-number, RefusedRightly, numbered, lone-rightly, AssignmentRefused, assignment-rightly, UpdateRefused, update-rightly}
 use Rattle.protocol.specs.Judge.{Call, openConnection, leave, clientMessage, localCreate, localWrite, readEntry, Verdict, refuse, ignore, readDone, openMark, closeMark, acceptHello, unsupportedRevision, storeNew, storeUpdate, newId, judgeHello, judgeAssignment, judgeUpdate, judgeKind, judgeMessage, judgeCreate, judgeWrite, judge, refuseCall, newEntry}
 

@@ -30,7 +30,7 @@ use Rattle.message.proofs.RefusalLaws.{refusal-number}
 use Rattle.table.specs.Names.{nameHeld}
 use Rattle.table.specs.Table.{entriesOf, defaultEntry, parseHeldUpdate}
 use Rattle.soundness.specs.Sound.{soundTable, soundMarks}
-use Rattle.answer.specs.Recipients.{Recipients, otherGreeted}
+use Rattle.recipients.specs.Recipients.{Recipients, otherGreeted}
 use Rattle.protocol.specs.Judge.{clientMessage, Verdict, refuse, ignore, acceptHello, unsupportedRevision, storeNew, storeUpdate, refuseCall, demandGreeted, protocolRevision, newId, newEntry, judgeHello, judgeAssignment, judgeUpdate, judgeKind, judgeMessage, judge}
 use Rattle.protocol.specs.Step.{ServerMemory, CallResult, refusal, execute, callStep}
 use Rattle.protocol.specs.Kept.{SoundMemory}

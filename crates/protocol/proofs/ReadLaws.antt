@@ -16,7 +16,7 @@ use Rattle.scalar.specs.declared.Scalar.the-variants.{Refused}
 use Rattle.table.specs.Table.{entryAt}
 use Rattle.table.proofs.TabulateLaws.{length-entries}
 use Rattle.soundness.specs.Sound.{soundTable}
-use Rattle.answer.proofs.RecipientLaws.{nobody-set}
+use Rattle.recipients.proofs.RecipientLaws.{nobody-set}
 use Rattle.protocol.specs.Judge.{readDone, refuseCall, judge}
 use Rattle.protocol.specs.Step.{ServerMemory, refusal, execute, callStep, readScalar, numberOf}
 use Rattle.protocol.specs.Answered.{ReadAnswered}

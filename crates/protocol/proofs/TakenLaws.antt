@@ -29,7 +29,7 @@ use Rattle.message.proofs.RefusalLaws.{refusal-number, RefusedRightly, lone-rig
 use Rattle.writer.specs.Writer.{checkName}
 use Rattle.table.specs.Names.{nameHeld}
 use Rattle.table.specs.Table.{entriesOf, defaultEntry}
-use Rattle.answer.specs.Recipients.{Recipients, allGreeted}
+use Rattle.recipients.specs.Recipients.{Recipients, allGreeted}
 use Rattle.hello.specs.Hello.{helloAnswer}
 use Rattle.protocol.specs.Judge.{Call, openConnection, leave, clientMessage, localCreate, localWrite, readEntry, Verdict, refuse, ignore, readDone, openMark, closeMark, acceptHello, unsupportedRevision, storeNew, storeUpdate, refuseCall, protocolRevision, newEntry, judgeCreate, judgeWrite, judge}
 use Rattle.protocol.specs.Step.{ServerMemory, LentCall, CallResult, refusal, execute, callStep}

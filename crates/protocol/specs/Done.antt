@@ -14,7 +14,7 @@ use Rattle.message.specs.Layout.{Entry, helloKind, unsupportedKind, revisionLen
 use Rattle.table.specs.Names.{nameHeld}
 use Rattle.table.specs.Table.{TableMemory, Holds, emptied, entriesOf, storeEntry, storeValue, entryOf, withUpdate}
 use Rattle.soundness.specs.Sound.{soundTable, connections, closed, open′, greeted}
-use Rattle.answer.specs.Recipients.{allGreeted, otherGreeted, recipientSet}
+use Rattle.recipients.specs.Recipients.{allGreeted, otherGreeted, recipientSet}
 use Rattle.hello.specs.Hello.{helloAnswer, longestHello}
 use Rattle.protocol.specs.Judge.{openConnection, leave, localCreate, localWrite, protocolRevision, newId, newEntry}
 use Rattle.protocol.specs.Step.{ServerMemory, LentCall, CallResult, withMark, withTable, callStep, freshStart, readScalar}

@@ -22,7 +22,7 @@ use Rattle.writer.specs.Writer.{checkName}
 use Rattle.table.specs.Names.{nameHeld}
 use Rattle.table.specs.Table.{defaultEntry, parseHeldUpdate}
 use Rattle.soundness.specs.Sound.{connections, closed, open′, greeted}
-use Rattle.answer.specs.Recipients.{Recipients, allGreeted, otherGreeted}
+use Rattle.recipients.specs.Recipients.{Recipients, allGreeted, otherGreeted}
 
 -- a call of the server half, with the bytes that are lent to it to read
 pub data Call : Type 0 where

@@ -2,9 +2,10 @@
 use denote.Ref.{RefT, now}
 use Prim.Native.Nat.{ℕ}
 use mathlib.Core.List.{List}
+use Rattle.field.specs.Place.{WithPlace}
 use Rattle.table.specs.Table.{TableMemory, tableMemory, lent}
 use Rattle.protocol.specs.Judge.{Call}
-use Rattle.protocol.specs.Step.{ServerMemory, LentCall, CallResult, StartResult}
+use Rattle.protocol.specs.Step.{ServerMemory, LentCall, CallResult}
 use Rattle.answer.specs.declared.Answer.{Answer}
 
 -- a table, and the marks that are lent beside it
@@ -20,14 +21,13 @@ abbrev pub lentCall : Call → (out : RefT (List ℕ)) → LentCall
 lentCall call out = record { call = call; output = now out }
 
 -- an answer, with memory and output as the call leaves them
-abbrev pub answered : Answer → ServerMemory → (out : List ℕ) → CallResult
+abbrev pub answered : Answer → ServerMemory → (out : List ℕ) → WithPlace CallResult
 answered a memory out =
-    record { number = a .number; taken = a .taken; sent = a .sent; recipients = a .recipients; memory = memory; output = out }
+    record {
+      result = record { number = a .number; taken = a .taken; sent = a .sent; recipients = a .recipients; memory = memory; output = out };
+      place = a .place;
+    }
 
 -- the server's memory, of plain lists
 abbrev pub serverMemory : (heads bytes : List ℕ) (count : ℕ) (marks : List ℕ) → ServerMemory
 serverMemory heads bytes count marks = record { table = tableMemory heads bytes count; marks = marks }
-
--- a fresh start's answer: 0 taken, 0 sent, no recipients
-abbrev pub startOf : StartResult → Answer
-startOf r = record { number = r .number; recipients = 0; taken = 0; sent = 0 }

@@ -1,8 +1,9 @@
 pub mod Judge
 pub mod Step
-pub mod Lent
 pub mod Run
 pub mod Copy
+pub mod Place
+pub mod Lent
 pub mod Answered
 pub mod Kept
 pub mod Taken

@@ -8,7 +8,7 @@ use lib.Dec.{eqb}
 use Rattle.field.specs.Answer.{done}
 use Rattle.field.specs.Choice.{pick}
 use Rattle.message.specs.Layout.{helloKind, updateKind, revisionBytes}
-use Rattle.answer.specs.Recipients.{testBit}
+use Rattle.recipients.specs.Recipients.{testBit}
 use Rattle.protocol.specs.Judge.{Call, openConnection, leave, clientMessage, localCreate, localWrite, readEntry, protocolRevision}
 use Rattle.protocol.specs.Step.{ServerMemory, LentCall, CallResult, callStep, freshStart}
 

@@ -13,7 +13,7 @@ use Rattle.scalar.specs.declared.Scalar.the-variants.{Boolean, Double, Neither,
 use Rattle.message.specs.Layout.{revisionLength, unsupportedKind, assignmentBytes, updateBytes, revisionBytes}
 use Rattle.table.specs.Table.{TableMemory, emptied, entryAt, entriesOf, storeEntry, storeValue}
 use Rattle.soundness.specs.Sound.{largeEnough, soundTable, soundMarks, connections, closed, open′, greeted}
-use Rattle.answer.specs.Recipients.{Recipients, nobody, sender, allGreeted, recipientSet}
+use Rattle.recipients.specs.Recipients.{Recipients, nobody, sender, allGreeted, recipientSet}
 use Rattle.hello.specs.Hello.{helloAnswer}
 use Rattle.protocol.specs.Judge.{Call, openConnection, leave, clientMessage, localCreate, localWrite, readEntry, Verdict, refuse, ignore, readDone, openMark, closeMark, acceptHello, unsupportedRevision, storeNew, storeUpdate, protocolRevision, judge}
 

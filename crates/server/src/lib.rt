@@ -1,8 +1,8 @@
 // The server half: each call on a lent table, with its connection marks and an output. A call judges soundness, judges, and performs.
 use answer::Answer;
+use field::DONE;
 use field::UNKNOWN_ID;
 use field::UNSOUND;
-use field::fault_at;
 use judge::CreateDecision;
 use judge::WriteDecision;
 use scalar::Scalar;
@@ -11,20 +11,14 @@ ghost use mathlib.Core.Bool.{_&&_};
 ghost use Prim.Native.Nat.{ℕ, _≤_};
 ghost use mathlib.Core.List.{List, []};
 ghost use lib.ListN.{length, replicate};
-ghost use Rattle.field.specs.Answer.{unsound};
 ghost use Rattle.field.specs.Octets.{overwriteAt};
+ghost use Rattle.answer.specs.Answers.{bareAnswer};
 ghost use Rattle.table.specs.Table.{lent, maxEntries};
 ghost use Rattle.soundness.specs.Sound.{soundTable, soundMarks, closed, connections};
 ghost use Rattle.protocol.specs.Judge.{openConnection, leave, clientMessage, localCreate, localWrite, readEntry};
 ghost use Rattle.protocol.specs.Step.{callStep, freshStart, readScalar, numberOf};
-ghost use Rattle.protocol.specs.Lent.{lentServer, lentCall, answered, startOf};
-
-// What a call answers where its memory is not sound.
-fn unsound() -> Answer
-    ensures { λ r. ⌜ r ≡ record { number = unsound; recipients = 0; taken = 0; sent = 0 } ⌝ }
-{
-    answer::refused(fault_at(UNSOUND, 0))
-}
+ghost use Rattle.protocol.specs.Place.{stepWithPlace};
+ghost use Rattle.protocol.specs.Lent.{lentServer, lentCall, answered};
 
 // Whether the table and the marks are sound. Heads and bytes go on as parts of themselves (docs/DECISIONS.md, Speed).
 fn is_sound(heads: &[u16], bytes: &[u8], count: u16, marks: &[u8]) -> bool
@@ -53,34 +47,34 @@ fn close_all(marks: &mut [u8])
 // Memory for a fresh start: the count becomes 0, and all connections are closed.
 pub fn fresh(heads: &[u16], bytes: &[u8], count: &mut u16, marks: &mut [u8]) -> Answer
     ensures answer { λ r.
-        ⌜ r ≡ startOf (freshStart maxEntries (lentServer (heads .entry) (bytes .entry) (now (count .entry)) (marks .entry))) ⌝ }
+        ⌜ r ≡ bareAnswer (freshStart maxEntries (lentServer (heads .entry) (bytes .entry) (now (count .entry)) (marks .entry)) .number) ⌝ }
     ensures memory { λ _.
         ⌜ lentServer (heads .entry) (bytes .entry) (now (count .exit)) (marks .exit)
         ≡ freshStart maxEntries (lentServer (heads .entry) (bytes .entry) (now (count .entry)) (marks .entry)) .memory ⌝ }
 {
     if heads.len() < table::HEADS_SIZE {
-        return unsound();
+        return answer::bare(UNSOUND);
     }
     if bytes.len() < table::BYTES_SIZE {
-        return unsound();
+        return answer::bare(UNSOUND);
     }
     if marks.len() < soundness::CONNECTIONS {
-        return unsound();
+        return answer::bare(UNSOUND);
     }
     close_all(marks);
     *count = 0;
-    answer::done(0, 0, 0)
+    answer::bare(DONE)
 }
 
 // A connection opens.
 pub fn open(heads: &[u16], bytes: &[u8], count: u16, marks: &mut [u8], c: usize) -> Answer
     ensures { λ r.
         ⌜ answered r (lentServer (heads .entry) (bytes .entry) count (marks .exit)) []
-        ≡ callStep maxEntries (lentServer (heads .entry) (bytes .entry) count (marks .entry))
+        ≡ stepWithPlace maxEntries (lentServer (heads .entry) (bytes .entry) count (marks .entry))
         (record { call = openConnection c; output = [] }) ⌝ }
 {
     if !is_sound(heads, bytes, count, marks) {
-        return unsound();
+        return answer::bare(UNSOUND);
     }
     let decision = judge::judge_open(marks, c);
     perform::perform_mark(marks, c, decision)
@@ -96,11 +90,11 @@ pub fn leave_connection(
 ) -> Answer
     ensures { λ r.
         ⌜ answered r (lentServer (heads .entry) (bytes .entry) count (marks .exit)) []
-        ≡ callStep maxEntries (lentServer (heads .entry) (bytes .entry) count (marks .entry))
+        ≡ stepWithPlace maxEntries (lentServer (heads .entry) (bytes .entry) count (marks .entry))
         (record { call = leave c; output = [] }) ⌝ }
 {
     if !is_sound(heads, bytes, count, marks) {
-        return unsound();
+        return answer::bare(UNSOUND);
     }
     let decision = judge::judge_leave(marks, c);
     perform::perform_mark(marks, c, decision)
@@ -120,11 +114,11 @@ pub fn receive(
 ) -> Answer
     ensures { λ r.
         ⌜ answered r (lentServer (heads .exit) (bytes .exit) (now (count .exit)) (marks .exit)) (now (out .exit))
-        ≡ callStep maxEntries (lentServer (heads .entry) (bytes .entry) (now (count .entry)) (marks .entry))
+        ≡ stepWithPlace maxEntries (lentServer (heads .entry) (bytes .entry) (now (count .entry)) (marks .entry))
         (lentCall (clientMessage c (now (m .entry))) (out .entry)) ⌝ }
 {
     if !is_sound(heads, bytes, *count, marks) {
-        return unsound();
+        return answer::bare(UNSOUND);
     }
     let decision = judge::judge_client_message(heads, bytes, *count, marks, c, m);
     perform::perform(heads, bytes, count, marks, c, m, decision, out)
@@ -143,16 +137,16 @@ pub fn create(
 ) -> Answer
     ensures { λ r.
         ⌜ answered r (lentServer (heads .exit) (bytes .exit) (now (count .exit)) (marks .entry)) (now (out .exit))
-        ≡ callStep maxEntries (lentServer (heads .entry) (bytes .entry) (now (count .entry)) (marks .entry))
+        ≡ stepWithPlace maxEntries (lentServer (heads .entry) (bytes .entry) (now (count .entry)) (marks .entry))
         (lentCall (localCreate (now (name .entry)) «type_code» (now (value .entry))) (out .entry)) ⌝ }
 {
     if !is_sound(heads, bytes, *count, marks) {
-        return unsound();
+        return answer::bare(UNSOUND);
     }
     match judge::judge_create(heads, bytes, *count, name, type_code, value) {
         CreateDecision::Refuse(fault) => answer::refused(fault),
         CreateDecision::Store => {
-            let recipients = answer::other_greeted(marks, answer::NO_ONE);
+            let recipients = recipients::other_greeted(marks, recipients::NO_ONE);
             perform::store_new(
                 heads,
                 bytes,
@@ -180,17 +174,17 @@ pub fn write(
 ) -> Answer
     ensures { λ r.
         ⌜ answered r (lentServer (heads .exit) (bytes .exit) count (marks .entry)) (now (out .exit))
-        ≡ callStep maxEntries (lentServer (heads .entry) (bytes .entry) count (marks .entry))
+        ≡ stepWithPlace maxEntries (lentServer (heads .entry) (bytes .entry) count (marks .entry))
         (lentCall (localWrite id (now (value .entry))) (out .entry)) ⌝ }
 {
     if !is_sound(heads, bytes, count, marks) {
-        return unsound();
+        return answer::bare(UNSOUND);
     }
     match judge::judge_write(heads, bytes, count, id, value) {
         WriteDecision::Refuse(fault) => answer::refused(fault),
         WriteDecision::Ignore => answer::ignored(0),
         WriteDecision::Store(number) => {
-            let recipients = answer::other_greeted(marks, answer::NO_ONE);
+            let recipients = recipients::other_greeted(marks, recipients::NO_ONE);
             perform::store_update(heads, bytes, id, number, value, 0, recipients, out)
         }
     }

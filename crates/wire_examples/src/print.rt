@@ -24,15 +24,10 @@ pub fn number(n: u16) {
     figure(n as usize);
 }
 
-// A refusal's number.
-pub fn refusal(answer: u8) {
+// A refusal's number, and its place.
+pub fn refused(answer: u8, place: usize) {
     word(b": refused");
     figure(answer as usize);
-}
-
-// A refusal's number, and its place.
-fn refused(answer: u8, place: usize) {
-    refusal(answer);
     figure(place);
 }
 

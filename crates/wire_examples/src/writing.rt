@@ -1,6 +1,6 @@
 // A case of the message writer: what is sent is read back, and the bytes past it must be as lent.
 use crate::print;
-use writer::Encoded;
+use answer::Answer;
 
 // What every byte of a lent output is.
 const LENT: u8 = 0xA5;
@@ -26,14 +26,11 @@ fn hex(s: &[u8]) {
     }
 }
 
-fn sent_of(e: Encoded) -> usize {
-    match e {
-        Encoded::Refused(fault) => {
-            print::refusal(fault.number);
-            0
-        }
-        Encoded::Sent(n) => n,
+fn sent_of(a: Answer) -> usize {
+    if a.number != field::DONE {
+        print::refused(a.number, a.place);
     }
+    a.sent
 }
 
 fn show(out: &[u8], lent: &[u8], sent: usize, update_type: u8) {
@@ -49,7 +46,7 @@ fn show(out: &[u8], lent: &[u8], sent: usize, update_type: u8) {
 }
 
 // Kind, type, room (2), the name's length, name and value.
-fn write(s: &[u8], out: &mut [u8]) -> Encoded {
+fn write(s: &[u8], out: &mut [u8]) -> Answer {
     let room = script::least(script::number(s, 2) as usize, out.len());
     let name_length = script::octet(s, 4) as usize;
     let fields = script::after(s, 5);
@@ -68,6 +65,6 @@ fn write(s: &[u8], out: &mut [u8]) -> Encoded {
 pub fn case(s: &[u8]) {
     let mut out = [LENT; 400];
     let lent = [LENT; 400];
-    let e = write(s, &mut out);
-    show(&out, &lent, sent_of(e), script::octet(s, 1));
+    let a = write(s, &mut out);
+    show(&out, &lent, sent_of(a), script::octet(s, 1));
 }

@@ -14,14 +14,14 @@ use Rattle.field.specs.declared.Fault.{Fault}
 use Rattle.field.specs.declared.Parsed.{Parsed}
 use Rattle.field.specs.declared.Parsed.the-variants.{Refused, Taken}
 use Rattle.field.proofs.ChoiceLaws.{by-test}
+use Rattle.answer.specs.Answers.{bareAnswer, refusedAnswer, doneAnswer}
 use Rattle.text.specs.Utf8.{isUtf8}
 use Rattle.value.specs.Value.{parseLone, IsValue}
 use Rattle.value.proofs.ValueLaws.{LoneIs, lone-is, lone-taken, value-small}
 use Rattle.message.specs.Layout.{Entry, Message, keepAlive, hello, unsupported, helloComplete, assignment, update, layout, keepAliveKind, helloKind, unsupportedKind, helloCompleteKind, assignmentKind, updateKind, WellFormed, WellFormedMessage}
 use Rattle.message.proofs.ReadBack.{length-assignment, length-update}
 use Rattle.message.proofs.RefusalLaws.{refusal-number, RefusedRightly, lone-rightly}
-use Rattle.writer.specs.Writer.{Fields, givenEntry, checkName, Checked, checkAssignment, checkUpdate, checkByKind, check, neededFor, bytesOf, Ready, ready, refusal, writeResult, written}
-use Rattle.writer.specs.declared.Encoded.the-variants as E
+use Rattle.writer.specs.Writer.{Fields, givenEntry, checkName, Checked, checkAssignment, checkUpdate, checkByKind, check, neededFor, bytesOf, Ready, ready, writeWithPlace, written}
 
 -- ---- a name and a value
 
@@ -144,18 +144,18 @@ module _ (f : Fields) (room : ℕ) (r : Ready room (check f)) where
 -- ---- what is answered and written, by what the message needs
 
 module _ (c : Checked) (out : List ℕ) where
-  pub needs-refused : (fault : Fault) → Refused fault ≡ neededFor c → refusal fault out ≡ writeResult c out
+  pub needs-refused : (fault : Fault) → Refused fault ≡ neededFor c → written (refusedAnswer fault) out ≡ writeWithPlace c out
   needs-refused fault e = go c e
     where
-      go : (c : Checked) → Refused fault ≡ neededFor c → refusal fault out ≡ writeResult c out
+      go : (c : Checked) → Refused fault ≡ neededFor c → written (refusedAnswer fault) out ≡ writeWithPlace c out
       go (Checked.refused other) q = let same : fault ≡ other = cc in rw same
       go (Checked.allowed m) q = let z : _≡_ {A = ℕ} 0 1 = cc in absurd (omega arith)
 
-  pub needs-more : (n : ℕ) → Taken n ≡ neededFor c → length out < n → refusal (faultAt outputTooShort 0) out ≡ writeResult c out
+  pub needs-more : (n : ℕ) → Taken n ≡ neededFor c → length out < n → written (bareAnswer outputTooShort) out ≡ writeWithPlace c out
   unfolding pick
   needs-more n e h = go c e
     where
-      go : (c : Checked) → Taken n ≡ neededFor c → refusal (faultAt outputTooShort 0) out ≡ writeResult c out
+      go : (c : Checked) → Taken n ≡ neededFor c → written (bareAnswer outputTooShort) out ≡ writeWithPlace c out
       go (Checked.refused fault) q = let z : _≡_ {A = ℕ} 0 1 = cc in absurd (omega arith)
       go (Checked.allowed m) q =
           let n-is : n ≡ length (layout m) = cc in
@@ -170,9 +170,9 @@ module _ (c : Checked) (out : List ℕ) where
 
   -- n bytes are sent, and the output afterwards is `after`
   pub ready-sent : Ready (length out) c → (n : ℕ) (after : List ℕ) → n ≡ length (bytesOf c) → after ≡ overwriteAt out 0 (bytesOf c)
-      → written (E.Sent n) after ≡ writeResult c out
+      → written (doneAnswer 0 0 n) after ≡ writeWithPlace c out
   unfolding pick
   ready-sent r n after = go c r
     where
-      go : (c : Checked) → Ready (length out) c → n ≡ length (bytesOf c) → after ≡ overwriteAt out 0 (bytesOf c) → written (E.Sent n) after ≡ writeResult c out
+      go : (c : Checked) → Ready (length out) c → n ≡ length (bytesOf c) → after ≡ overwriteAt out 0 (bytesOf c) → written (doneAnswer 0 0 n) after ≡ writeWithPlace c out
       go (Checked.allowed m) (ready h) s w = rw (le-leb (length (layout m)) (length out) h, s, w)

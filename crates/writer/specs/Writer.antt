@@ -8,14 +8,14 @@ use Rattle.field.specs.Answer.{done, unknownKind, notUtf8, tooLong, outputTooSh
 use Rattle.field.specs.Choice.{pick, demand}
 use Rattle.field.specs.Octets.{overwriteAt}
 use Rattle.field.specs.Field.{faultAt, andThen}
+use Rattle.field.specs.Place.{reportedPlace, WithPlace}
 use Rattle.field.specs.declared.Fault.{Fault}
 use Rattle.field.specs.declared.Parsed.{Parsed}
 use Rattle.field.specs.declared.Parsed.the-variants.{Refused, Taken}
+use Rattle.answer.specs.declared.Answer.{Answer}
 use Rattle.text.specs.Utf8.{isUtf8}
 use Rattle.value.specs.Value.{parseLone}
 use Rattle.message.specs.Layout.{Entry, Message, keepAlive, hello, unsupported, helloComplete, assignment, update, layout, maxNameLength, keepAliveKind, helloKind, unsupportedKind, helloCompleteKind, assignmentKind, updateKind}
-use Rattle.writer.specs.declared.Encoded.{Encoded}
-use Rattle.writer.specs.declared.Encoded.the-variants as E
 
 -- the fields that are given; "An update's type is given to it; name and value are lent as for a local call"
 pub record Fields : Type 0 where
@@ -86,39 +86,36 @@ bytesOf (allowed m) = layout m
 pub data Ready (room : ℕ) : Checked → Type 0 where
   ready : {m : Message} → length (layout m) ≤ room → Ready room (allowed m)
 
--- number, sent and output; the place of a refusal
+-- number, taken, sent and recipients; the output afterwards
 pub record WriteResult : Type 0 where
   pub number : ℕ
-  pub place : ℕ
+  pub taken : ℕ
   pub sent : ℕ
+  pub recipients : ℕ
   pub output : List ℕ
 
--- "A refusal (1 to 14) reports .. 0 sent .., and changes no lent memory."
-abbrev pub refusal : Fault → List ℕ → WriteResult
-refusal fault out = record { number = fault .number; place = fault .place; sent = 0; output = out }
+-- "A refusal (1 to 14) reports 0 bytes taken, 0 sent and no recipients, and changes no lent memory."
+abbrev pub refusal : (number : ℕ) → List ℕ → WriteResult
+refusal number out = record { number = number; taken = 0; sent = 0; recipients = 0; output = out }
 
--- "With 0 the first "sent" bytes of the output are the messages and the rest is unchanged."
+-- "With 0 the first "sent" bytes of the output are the messages and the rest is unchanged"; "the message writer take 0"
 abbrev pub sending : Message → List ℕ → WriteResult
-sending m out = record { number = done; place = 0; sent = length (layout m); output = overwriteAt out 0 (layout m) }
+sending m out = record { number = done; taken = 0; sent = length (layout m); recipients = 0; output = overwriteAt out 0 (layout m) }
 
 -- what the checks come to, and "last the output room (12), given exactly when the output is shorter than what would be sent"
 abbrev pub writeResult : Checked → List ℕ → WriteResult
-writeResult (refused fault) out = refusal fault out
-writeResult (allowed m) out = demand (leb (length (layout m)) (length out)) (refusal (faultAt outputTooShort 0) out) (sending m out)
+writeResult (refused fault) out = refusal (fault .number) out
+writeResult (allowed m) out = demand (leb (length (layout m)) (length out)) (refusal outputTooShort out) (sending m out)
 
--- the number, the place and the bytes sent that each case of the writer's answer stands for
-abbrev pub numberOf : Encoded → ℕ
-numberOf (E.Refused fault) = fault .number
-numberOf (E.Sent sent) = done
+-- the place of the field that failed, as the answer tells it: counted from the start of the name or value lent
+abbrev pub placeOf : Checked → ℕ
+placeOf (refused fault) = reportedPlace fault
+placeOf (allowed m) = 0
 
-abbrev pub placeOf : Encoded → ℕ
-placeOf (E.Refused fault) = fault .place
-placeOf (E.Sent sent) = 0
-
-abbrev pub sentOf : Encoded → ℕ
-sentOf (E.Refused fault) = 0
-sentOf (E.Sent sent) = sent
+abbrev pub writeWithPlace : Checked → List ℕ → WithPlace WriteResult
+writeWithPlace c out = record { result = writeResult c out; place = placeOf c }
 
 -- an answer, with the output as the call leaves it
-abbrev pub written : Encoded → List ℕ → WriteResult
-written e out = record { number = numberOf e; place = placeOf e; sent = sentOf e; output = out }
+abbrev pub written : Answer → List ℕ → WithPlace WriteResult
+written a out =
+    record { result = record { number = a .number; taken = a .taken; sent = a .sent; recipients = a .recipients; output = out }; place = a .place }

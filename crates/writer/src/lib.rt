@@ -1,5 +1,5 @@
 // The message writer of Protocol Revision 2.0: fields are checked, and their message is written.
-use field::Fault;
+use answer::Answer;
 use field::NOT_UTF8;
 use field::OUTPUT_TOO_SHORT;
 use field::Parsed;
@@ -24,13 +24,7 @@ ghost use lib.ListN.{length};
 ghost use Rattle.field.specs.Octets.{overwriteAt};
 ghost use Rattle.message.specs.Lent.{lentEntry};
 ghost use Rattle.writer.specs.Writer.{lentFields, checkName, checkAssignment, checkUpdate, check};
-ghost use Rattle.writer.specs.Writer.{neededFor, bytesOf, Ready, writeResult, written};
-
-// What the writer answers: a refusal, or how many bytes of the output are the message.
-pub enum Encoded {
-    Refused(Fault),
-    Sent(usize),
-}
+ghost use Rattle.writer.specs.Writer.{neededFor, bytesOf, Ready, writeWithPlace, written};
 
 // ---- the checks: each answers the refusal, or how many bytes the field or the message has
 
@@ -135,19 +129,19 @@ pub fn write_message(
     number: u16,
     value: &[u8],
     out: &mut [u8],
-) -> Encoded
+) -> Answer
     ensures { λ r.
         ⌜ written r (now (out .exit))
-        ≡ writeResult (check (lentFields kind revision (name .entry) «type_code» id number (value .entry)))
+        ≡ writeWithPlace (check (lentFields kind revision (name .entry) «type_code» id number (value .entry)))
         (now (out .entry)) ⌝ }
 {
     let needed = check_fields(kind, name, type_code, value);
     let Parsed::Taken(size) = needed else {
-        return Encoded::Refused(fault_of(needed));
+        return answer::refused(fault_of(needed));
     };
     if out.len() < size {
-        return Encoded::Refused(fault_at(OUTPUT_TOO_SHORT, 0));
+        return answer::bare(OUTPUT_TOO_SHORT);
     }
     let sent = write_checked(kind, revision, name, type_code, id, number, value, out);
-    Encoded::Sent(sent)
+    answer::done(0, 0, sent)
 }

@@ -10,48 +10,40 @@ use borrow.Author.Needs.{needs}
 use Rattle.client.proofs.copy_fresh.Statement.{statement}
 use Rattle.client.proofs.copy_fresh.Tie as tie
 
-fault-at-requires : tie.Need-fault-at-requires
-fault-at-requires c κs = search needs
-
-refused-requires : tie.Need-refused-requires
-refused-requires c κs = search needs
+bare-requires : tie.Need-bare-requires
+bare-requires c κs = search needs
 
 returns : tie.Need-returns
 unfolding copyFreshStart largeEnough pick
-returns c = rw (c .refused .ensures, c .before .fault-at .ensures, lt-leb _ _ (c .before .before .if1 .taken)) (refl, refl)
+returns c = rw (c .bare .ensures, lt-leb _ _ (c .before .if1 .taken)) (refl, refl)
 
-fault-at-requires-2 : tie.Need-fault-at-requires-2
-fault-at-requires-2 c κs = search needs
-
-refused-requires-2 : tie.Need-refused-requires-2
-refused-requires-2 c κs = search needs
+bare-requires-2 : tie.Need-bare-requires-2
+bare-requires-2 c κs = search needs
 
 returns-2 : tie.Need-returns-2
 unfolding copyFreshStart largeEnough pick
 returns-2 c =
-    let t = c .before .before in
+    let t = c .before in
     let bytes = t .before .before .before .before .args .bytes .now in
-    rw (c .refused2 .ensures, c .before .fault-at2 .ensures, le-leb _ _ (t .before .if1 .left), lt-leb 20480 (length bytes) (omega (arith, t .if2 .taken))) (refl, refl)
+    rw (c .bare2 .ensures, le-leb _ _ (t .before .if1 .left), lt-leb 20480 (length bytes) (omega (arith, t .if2 .taken))) (refl, refl)
 
-done-requires : tie.Need-done-requires
-done-requires c κs = search needs
+bare-requires-3 : tie.Need-bare-requires-3
+bare-requires-3 c κs = search needs
 
 returns-3 : tie.Need-returns-3
 unfolding copyFreshStart largeEnough pick
 returns-3 c =
     let t = c .before in
     let bytes = t .before .before .before .before .args .bytes .now in
-    rw (c .done .ensures, le-leb _ _ (t .before .if1 .left), le-leb 20480 (length bytes) (omega (arith, t .if2 .left))) (refl, refl)
+    rw (c .bare3 .ensures, le-leb _ _ (t .before .if1 .left), le-leb 20480 (length bytes) (omega (arith, t .if2 .left))) (refl, refl)
 
 pub copy-fresh-spec : {M : Type 1} → statement M
 copy-fresh-spec =
     tie.close
     (tie.spec
-    fault-at-requires
-    refused-requires
+    bare-requires
     returns
-    fault-at-requires-2
-    refused-requires-2
+    bare-requires-2
     returns-2
-    done-requires
+    bare-requires-3
     returns-3)

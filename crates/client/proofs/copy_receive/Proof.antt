@@ -2,10 +2,13 @@
 use mathlib.Core.Path.{_≡_, sym, _∙_}
 use mathlib.Core.Bool.{true}
 use borrow.Author.Tests.{not-true, not-false}
+use Rattle.field.specs.Answer.{unsound}
 use Rattle.field.specs.Choice.{pick}
+use Rattle.field.proofs.PlaceLaws.{no-place}
 use Rattle.table.specs.Table.{TableMemory, tableMemory, maxEntries}
 use Rattle.soundness.specs.Sound.{soundTable}
 use Rattle.protocol.specs.Copy.{executeCopy, copyMessage}
+use Rattle.protocol.specs.Place.{copyPlace}
 use borrow.Author.Needs.{needs}
 use Rattle.client.proofs.copy_receive.Statement.{statement}
 use Rattle.client.proofs.copy_receive.Tie as tie
@@ -36,10 +39,10 @@ same-length-2 : tie.Need-same-length-2
 same-length-2 c = search needs
 
 returns : tie.Need-returns
-unfolding copyMessage executeCopy pick
+unfolding copyMessage copyPlace executeCopy pick
 returns c =
     let t = c .before .before in
-    rw (c .refused .ensures, c .before .fault-at .ensures, ← (t .before .table-is-sound .ensures), not-true (t .before .table-is-sound .result) (t .if1 .taken))
+    rw (c .refused .ensures, c .before .fault-at .ensures, no-place unsound, ← (t .before .table-is-sound .ensures), not-true (t .before .table-is-sound .result) (t .if1 .taken))
 
 judge-copy-requires : tie.Need-judge-copy-requires
 unfolding to-start
@@ -58,7 +61,7 @@ same-length-4 : tie.Need-same-length-4
 same-length-4 c = search needs
 
 returns-2 : tie.Need-returns-2
-unfolding copyMessage pick to-start
+unfolding copyMessage copyPlace pick to-start
 returns-2 c =
     let k = c .before .before .before .before in
     let j = k .before .before .before .before in

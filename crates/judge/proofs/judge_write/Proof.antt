@@ -15,7 +15,7 @@ use Rattle.table.specs.Table.{TableMemory, tableMemory, defaultEntry, entryAt, 
 use Rattle.table.proofs.TabulateLaws.{length-entries, entry-get}
 use Rattle.soundness.proofs.EntryLaws.{accepted-value}
 use Rattle.soundness.proofs.ReadableLaws.{StoredEntry, stored-entry}
-use Rattle.answer.specs.Recipients.{allGreeted}
+use Rattle.recipients.specs.Recipients.{allGreeted}
 use Rattle.protocol.specs.Judge.{Verdict, refuse, ignore, storeUpdate, judge, judgeWrite}
 use Rattle.judge.proofs.DecisionLaws.{write-refusal}
 use borrow.Author.Needs.{needs}

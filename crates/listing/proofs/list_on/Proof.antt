@@ -1,6 +1,7 @@
 -- `list_on` puts the listing: the head line, and then the messages on the started table.
 use mathlib.Core.Path.{ap, _∙_}
 use mathlib.Core.List.{[]}
+use Rattle.field.specs.Place.{WithPlace}
 use Rattle.protocol.specs.Judge.{openConnection}
 use Rattle.protocol.specs.Step.{ServerMemory, CallResult, callStep}
 use Rattle.protocol.specs.Lent.{serverMemory}
@@ -61,7 +62,7 @@ returns c =
     let o = h .before .before .before .before .before in
     let f = o .before .before .before .before .before .before in
     let a = f .before .before .before .before .before .before .before .before .before .before .before .args in
-    let start = ap (λ (r : CallResult). r .memory) (o .«open» .ensures) ∙ ap (λ (x : ServerMemory). callStep 64 x (record { call = openConnection 0; output = [] }) .memory) (f .fresh .ensures .1) in
+    let start = ap (λ (r : WithPlace CallResult). r .result .memory) (o .«open» .ensures) ∙ ap (λ (x : ServerMemory). callStep 64 x (record { call = openConnection 0; output = [] }) .memory) (f .fresh .ensures .1) in
     listing-put (serverMemory (a .heads .now) (a .bytes .now) 0 (a .marks .now)) _ (a .out .now) (a .input .now) _ (a .text .now) _ _ _ _ start (stream-part (n .stream-length .result) (a .input .now) (n .stream-length .ensures)) (h .put-bytes .ensures) (m .put-messages .ensures)
 
 pub list-on-spec : {M : Type 1} → statement M

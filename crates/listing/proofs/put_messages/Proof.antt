@@ -1,10 +1,11 @@
 -- `put_messages` puts a line for each message: a loop whose invariant is that the lines so far lead to those that are left.
 use Rattle.digits.proofs.PutLaws.{put-length}
-use mathlib.Core.Path.{_≡_, refl, _∙_}
+use mathlib.Core.Path.{_≡_, refl, ap, _∙_}
 use Prim.Native.Nat.{_-_, _≤_, _<_}
 use native.Mathlib.Omega.{arith}
 use lib.ListN.{length, drop}
 use borrow.Author.Needs.{needs}
+use Rattle.field.specs.Place.{WithPlace}
 use Rattle.field.proofs.OctetsLaws.{rest-all}
 use Rattle.protocol.specs.Step.{CallResult}
 use Rattle.listing.specs.Listing.{messageStep}
@@ -35,10 +36,10 @@ begin c = c .before .before .before .before .before .before .before
 abbrev result : tie.After-slice-known10 Inv-loop μ-loop → CallResult
 result c =
     let d = call c .receive in
-    answered (d .result) (serverMemory (d .last .0) (d .last .1 .0) (d .last .1 .1 .0) (d .last .1 .1 .1 .0)) (d .last .1 .1 .1 .1 .1 .1 .0)
+    answered (d .result) (serverMemory (d .last .0) (d .last .1 .0) (d .last .1 .1 .0) (d .last .1 .1 .1 .0)) (d .last .1 .1 .1 .1 .1 .1 .0) .result
 
 step : (c : tie.After-slice-known10 Inv-loop μ-loop) → result c ≡ messageStep (serverMemory (head c .loop .heads) (head c .loop .bytes) (head c .loop .count) (head c .loop .marks)) (head c .loop .out) (drop (head c .loop .offset) (begin (head c) .args .stream .now))
-step c = rw (rest-all (head c .loop .offset) (begin (head c) .args .stream .now)) at (call c .receive .ensures)
+step c = rw (rest-all (head c .loop .offset) (begin (head c) .args .stream .now)) at (ap (λ (r : WithPlace CallResult). r .result) (call c .receive .ensures))
 
 fits : (c : tie.After-slice-known10 Inv-loop μ-loop) → call c .receive .result .taken ≤ length (begin (head c) .args .stream .now) - head c .loop .offset
 fits c = step-fits (begin (head c) .args .stream .now) _ _ (head c .loop .offset) (result c) (step c)

@@ -4,7 +4,7 @@ use denote.Struct.Laws as LL
 use Rattle.heads.proofs.Head as T
 use Rattle.table.specs.Table.{tableMemory}
 use Rattle.protocol.specs.Copy.{copyFreshStart}
-use Rattle.client.specs.Lent.{copyStartOf}
+use Rattle.answer.specs.Answers.{bareAnswer}
 use Rattle.answer.proofs.Answer as O
 use Rattle.answer.proofs.Answer.Laws as O′
 use Rattle.nt2.proofs.FewLaws.{copy-fresh-few}
@@ -41,7 +41,7 @@ module _ {M : Type 1} (𝓤 : URA M) (H : Heap 𝓤) (A : Atoms 𝓤) (W : Given
       let last : Type 0 = OthersLast (fn′.signature .params) (fn′.ended .kept) κs a in
       let says-last : last → Fml = othersLast (fn′.signature .params) (fn′.ended .kept) κs a in
       let Said : O.the-row .Denot → last → Type 0 = λ r ws.
-      (r ≡ copyStartOf (copyFreshStart maxEntries (tableMemory (flatOf hs) (a .1 .0 .now) (a .1 .1 .0 .now))))
+      (r ≡ bareAnswer (copyFreshStart maxEntries (tableMemory (flatOf hs) (a .1 .0 .now) (a .1 .1 .0 .now)) .number))
       × (tableMemory (flatOf hs) (a .1 .0 .now) (ws .1 .0) ≡ copyFreshStart maxEntries (tableMemory (flatOf hs) (a .1 .0 .now) (a .1 .1 .0 .now)) .memory) in
       let stood : AllStand 𝓤 H A (fn′.signature .params) (fn′.ended .kept) κs a = stand 𝓤 H A W (kinds κs) a in
       let end = ends-at 𝓤 H A fn′.ended (stays 𝓤 H A W fn′.ended (fn′.clauses 𝓤 H A at-mem run)) (fn′.clauses 𝓤 H A at-mem run) W ((κs, qs, bounds, a, vals), g) in

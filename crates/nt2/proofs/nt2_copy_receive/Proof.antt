@@ -3,11 +3,11 @@ use Rattle.heads.proofs.Prelude.{maxEntries, headNumbers, _≡_, refl, ℕ, Lis
 use denote.Struct.Laws as LL
 use Rattle.heads.proofs.Head as T
 use Rattle.table.specs.Table.{tableMemory}
-use Rattle.protocol.specs.Copy.{copyMessage}
+use Rattle.protocol.specs.Place.{copyWithPlace}
 use Rattle.client.specs.Lent.{copied}
 use Rattle.client.proofs.Copied as O
 use Rattle.client.proofs.Copied.Laws as O′
-use Rattle.nt2.proofs.Beside.{copy-beside}
+use Rattle.nt2.proofs.Beside.{beside}
 use Rattle.nt2.proofs.FewLaws.{copy-few}
 use Rattle.nt2.proofs.Results.{copiedNothing, copiedNothing-is as few-is}
 use Rattle.nt2.proofs.UnchangedLaws.{copy-keeps}
@@ -45,7 +45,7 @@ module _ {M : Type 1} (𝓤 : URA M) (H : Heap 𝓤) (A : Atoms 𝓤) (W : Given
       let says-last : last → Fml = othersLast (fn′.signature .params) (fn′.ended .kept) κs a in
       let Said : O.the-row .Denot → List ℕ → last → Type 0 = λ r zs ws.
       copied r (tableMemory zs (ws .0) (ws .1 .0))
-      ≡ copyMessage maxEntries (tableMemory (flatOf hs) (a .1 .0 .now) (a .1 .1 .0 .now)) (a .1 .1 .1 .0 .now) in
+      ≡ copyWithPlace maxEntries (tableMemory (flatOf hs) (a .1 .0 .now) (a .1 .1 .0 .now)) (a .1 .1 .1 .0 .now) in
       let stood : AllStand 𝓤 H A (fn′.signature .params) (fn′.ended .kept) κs a = stand 𝓤 H A W (kinds κs) a in
       let end = ends-at 𝓤 H A fn′.ended (stays 𝓤 H A W fn′.ended (fn′.clauses 𝓤 H A at-mem run)) (fn′.clauses 𝓤 H A at-mem run) W ((κs, qs, bounds, a, vals), g) in
       let after : Val → SProp 𝓤 = walkOf 𝓤 H A fn′.ended (stays 𝓤 H A W fn′.ended (fn′.clauses 𝓤 H A at-mem run)) (fn′.clauses 𝓤 H A at-mem run) .post ((κs, qs, bounds, a, vals), g) in
@@ -59,7 +59,7 @@ module _ {M : Type 1} (𝓤 : URA M) (H : Heap 𝓤) (A : Atoms 𝓤) (W : Given
       #core (Core 𝓤 H A at-mem run) known-core O.the-row O′.lowered (LL.tells O.the-type O′.the-laws) last says-last known-load E (are .0 .0 .1))
       _ _ _ _ _ _ _ refl _ _ refl tt tt refl refl refl tt
       (λ few. via 𝓤 _ (exits-early 𝓤 H A W (fn′.signature .params) (fn′.ended .kept) κs a vals stood (κs .0) (qs .0) tokens O.the-row (LL.makes O.the-type O′.the-plain 𝓤 H A)
-      copiedNothing _ few-is _ (copy-beside (copy-few _ _ _ (length-few hs few) _) refl)) (end (O′.lowered copiedNothing) copiedNothing (nows 𝓤 H A (fn′.signature .params) (fn′.ended .kept) κs a stood) (tt, (tt, (tt, (tt, tt))))))
+      copiedNothing _ few-is _ (beside (copy-few _ _ _ (length-few hs few) _) refl)) (end (O′.lowered copiedNothing) copiedNothing (nows 𝓤 H A (fn′.signature .params) (fn′.ended .kept) κs a stood) (tt, (tt, (tt, (tt, tt))))))
       _ _ _ refl _ refl tt _ _ _ _ refl refl refl tt _ _ (λ w. refl) (λ enough w.
       finishes 𝓤 H A W (𝓣 .C) (𝓣 .Λ) fm at-mem run after tokens others (κs .0) (qs .0) (a .0 .name) (a .0 .ptr .0) (a .0 .ptr .1) hs
       #core (Core 𝓤 H A at-mem run) known-core O.the-row O′.lowered (LL.tells O.the-type O′.the-laws) last says-last
@@ -69,7 +69,7 @@ module _ {M : Type 1} (𝓤 : URA M) (H : Heap 𝓤) (A : Atoms 𝓤) (W : Given
       _ _ _ _ (λ r. refl) (λ r. refl) refl (λ r. tt) _ (λ r w. refl) 5 refl (λ r w. tt) (λ r w. tt) (λ r w. refl) (λ r w. tt) (λ r zs ws is z e.
       via 𝓤 _ (exits 𝓤 H A W (κs .0) (qs .0) (a .0 .name) (a .0 .ptr .0) (a .0 .ptr .1) hs tokens (says-last ws) (O.the-row .own r (O′.lowered r ∷ [])) _
       (stored (changed (r .number)) zs hs) (length-stored (changed (r .number)) zs hs)
-      (copy-beside (rw (store-flat hs enough zs z (r .number) (copy-keeps _ _ _ r _ _ _ e), ← (load-flat hs enough)) e) (store-rest hs enough zs (r .number))))
+      (beside (rw (store-flat hs enough zs z (r .number) (copy-keeps _ _ _ r _ _ _ e), ← (load-flat hs enough)) e) (store-rest hs enough zs (r .number))))
       (end (O′.lowered r) r (stored (changed (r .number)) zs hs, ws) (tt, (tt, (tt, (tt, tt)))))))))
 
 pub nt2-copy-receive-spec : {M : Type 1} → stated.statement M

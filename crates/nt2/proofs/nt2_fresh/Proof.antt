@@ -3,7 +3,8 @@ use Rattle.heads.proofs.Prelude.{maxEntries, headNumbers, _≡_, refl, List, []
 use denote.Struct.Laws as LL
 use Rattle.heads.proofs.Head as T
 use Rattle.protocol.specs.Step.{freshStart}
-use Rattle.protocol.specs.Lent.{serverMemory, startOf}
+use Rattle.protocol.specs.Lent.{serverMemory}
+use Rattle.answer.specs.Answers.{bareAnswer}
 use Rattle.answer.proofs.Answer as O
 use Rattle.answer.proofs.Answer.Laws as O′
 use Rattle.nt2.proofs.FewLaws.{fresh-few}
@@ -41,7 +42,7 @@ module _ {M : Type 1} (𝓤 : URA M) (H : Heap 𝓤) (A : Atoms 𝓤) (W : Given
       let last : Type 0 = OthersLast (fn′.signature .params) (fn′.ended .kept) κs a in
       let says-last : last → Fml = othersLast (fn′.signature .params) (fn′.ended .kept) κs a in
       let Said : O.the-row .Denot → last → Type 0 = λ r ws.
-      (r ≡ startOf (freshStart maxEntries (serverMemory (flatOf hs) (a .1 .0 .now) (a .1 .1 .0 .now) (a .1 .1 .1 .0 .now))))
+      (r ≡ bareAnswer (freshStart maxEntries (serverMemory (flatOf hs) (a .1 .0 .now) (a .1 .1 .0 .now) (a .1 .1 .1 .0 .now)) .number))
       × (serverMemory (flatOf hs) (a .1 .0 .now) (ws .1 .0) (ws .1 .1 .0) ≡ freshStart maxEntries (serverMemory (flatOf hs) (a .1 .0 .now) (a .1 .1 .0 .now) (a .1 .1 .1 .0 .now)) .memory) in
       let stood : AllStand 𝓤 H A (fn′.signature .params) (fn′.ended .kept) κs a = stand 𝓤 H A W (kinds κs) a in
       let end = ends-at 𝓤 H A fn′.ended (stays 𝓤 H A W fn′.ended (fn′.clauses 𝓤 H A at-mem run)) (fn′.clauses 𝓤 H A at-mem run) W ((κs, qs, bounds, a, vals), g) in

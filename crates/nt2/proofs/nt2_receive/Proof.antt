@@ -3,7 +3,7 @@ use Rattle.heads.proofs.Prelude.{maxEntries, headNumbers, _≡_, refl, ℕ, Lis
 use denote.Struct.Laws as LL
 use Rattle.heads.proofs.Head as T
 use Rattle.protocol.specs.Judge.{clientMessage}
-use Rattle.protocol.specs.Step.{callStep}
+use Rattle.protocol.specs.Place.{stepWithPlace}
 use Rattle.protocol.specs.Lent.{serverMemory, answered}
 use Rattle.answer.proofs.Answer as O
 use Rattle.answer.proofs.Answer.Laws as O′
@@ -48,7 +48,7 @@ module _ {M : Type 1} (𝓤 : URA M) (H : Heap 𝓤) (A : Atoms 𝓤) (W : Given
       let says-last : last → Fml = othersLast (fn′.signature .params) (fn′.ended .kept) κs a in
       let Said : O.the-row .Denot → List ℕ → last → Type 0 = λ r zs ws.
       answered r (serverMemory zs (ws .0) (ws .1 .0) (ws .1 .1 .0)) (ws .1 .1 .1 .1 .1 .0)
-      ≡ callStep maxEntries (serverMemory (flatOf hs) (a .1 .0 .now) (a .1 .1 .0 .now) (a .1 .1 .1 .0 .now))
+      ≡ stepWithPlace maxEntries (serverMemory (flatOf hs) (a .1 .0 .now) (a .1 .1 .0 .now) (a .1 .1 .1 .0 .now))
       (record { call = clientMessage (a .1 .1 .1 .1 .0) (a .1 .1 .1 .1 .1 .0 .now); output = a .1 .1 .1 .1 .1 .1 .0 .now }) in
       let stood : AllStand 𝓤 H A (fn′.signature .params) (fn′.ended .kept) κs a = stand 𝓤 H A W (kinds κs) a in
       let end = ends-at 𝓤 H A fn′.ended (stays 𝓤 H A W fn′.ended (fn′.clauses 𝓤 H A at-mem run)) (fn′.clauses 𝓤 H A at-mem run) W ((κs, qs, bounds, a, vals), g) in

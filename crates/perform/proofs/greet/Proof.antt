@@ -17,19 +17,16 @@ memory s = tableMemory (s .args .heads .now) (s .args .bytes .now) (s .args .cou
 hello-length-requires : tie.Need-hello-length-requires
 hello-length-requires c κs = let s = c .before .before .before .before in sound-readable maxEntries (memory s) (s .pre .0 .1)
 
-fault-at-requires : tie.Need-fault-at-requires
-fault-at-requires c κs = search needs
-
-refused-requires : tie.Need-refused-requires
-refused-requires c κs = search needs
+bare-requires : tie.Need-bare-requires
+bare-requires c κs = search needs
 
 returns : tie.Need-returns
 unfolding execute pick
 returns c =
-    let t = c .before .before in
+    let t = c .before in
     let l = t .before in
     let s = l .before .before .before .before .before in
-    rw (c .refused .ensures, c .before .fault-at .ensures, lt-leb (length (helloAnswer 0 (entriesOf (memory s)))) (length (s .args .out .now)) (omega (arith, t .if1 .taken, l .hello-length .ensures .0)))
+    rw (c .bare .ensures, lt-leb (length (helloAnswer 0 (entriesOf (memory s)))) (length (s .args .out .now)) (omega (arith, t .if1 .taken, l .hello-length .ensures .0)))
 
 only-sender-requires : tie.Need-only-sender-requires
 only-sender-requires c κs = search needs
@@ -66,8 +63,7 @@ greet-spec =
     tie.close
     (tie.spec
     hello-length-requires
-    fault-at-requires
-    refused-requires
+    bare-requires
     returns
     only-sender-requires
     write-hello-requires

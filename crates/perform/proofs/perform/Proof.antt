@@ -13,8 +13,8 @@ use Rattle.soundness.proofs.ReadableLaws.{sound-holds, sound-count}
 use Rattle.judge.proofs.DecisionLaws.{known-performable}
 use Rattle.judge.specs.declared.Decision.{Decision}
 use Rattle.judge.specs.Decision.{Performable}
-use Rattle.answer.specs.Recipients.{otherGreeted}
-use Rattle.answer.proofs.RecipientLaws.{others-all}
+use Rattle.recipients.specs.Recipients.{otherGreeted}
+use Rattle.recipients.proofs.RecipientLaws.{others-all}
 use Rattle.protocol.specs.Step.{execute}
 use borrow.Author.Needs.{needs}
 use Rattle.perform.proofs.perform.Statement.{statement}

@@ -4,7 +4,7 @@ use lib.ListN.{length}
 use borrow.Author.Tests.{le-leb}
 use Rattle.field.specs.Choice.{pick}
 use Rattle.field.specs.Octets.{overwriteAt}
-use Rattle.answer.proofs.RecipientLaws.{nobody-set}
+use Rattle.recipients.proofs.RecipientLaws.{nobody-set}
 use Rattle.judge.proofs.DecisionLaws.{known-markable}
 use Rattle.protocol.specs.Step.{execute}
 use borrow.Author.Needs.{needs}

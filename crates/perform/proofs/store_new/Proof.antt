@@ -27,19 +27,16 @@ add-if1 c = search needs
 add-if1-2 : tie.Need-add-if1-2
 add-if1-2 c = search needs
 
-fault-at-requires : tie.Need-fault-at-requires
-fault-at-requires c κs = search needs
-
-refused-requires : tie.Need-refused-requires
-refused-requires c κs = search needs
+bare-requires : tie.Need-bare-requires
+bare-requires c κs = search needs
 
 returns : tie.Need-returns
 unfolding execute pick
 returns c = λ marks h.
-    let t = c .before .before in
+    let t = c .before in
     let s = t .before .before .before .before .before .before .before in
     let id = s .args .count .now in
-    rw (c .refused .ensures, c .before .fault-at .ensures, lt-leb (length (assignmentBytes id (new s))) (length (s .args .out .now)) (omega (arith, t .if1 .taken, length-assignment id (new s))))
+    rw (c .bare .ensures, lt-leb (length (assignmentBytes id (new s))) (length (s .args .out .now)) (omega (arith, t .if1 .taken, length-assignment id (new s))))
 
 start-requires : tie.Need-start-requires
 start-requires c κs = search needs
@@ -84,8 +81,7 @@ store-new-spec =
     (tie.spec
     add-if1
     add-if1-2
-    fault-at-requires
-    refused-requires
+    bare-requires
     returns
     start-requires
     write-assignment-requires

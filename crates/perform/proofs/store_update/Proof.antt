@@ -14,18 +14,15 @@ use Rattle.perform.proofs.store_update.Tie as tie
 add-if1 : tie.Need-add-if1
 add-if1 c = search needs
 
-fault-at-requires : tie.Need-fault-at-requires
-fault-at-requires c κs = search needs
-
-refused-requires : tie.Need-refused-requires
-refused-requires c κs = search needs
+bare-requires : tie.Need-bare-requires
+bare-requires c κs = search needs
 
 returns : tie.Need-returns
 unfolding execute pick
 returns c = λ count marks to h.
-    let t = c .before .before in
+    let t = c .before in
     let a = t .before .before .before .before .before .args in
-    rw (c .refused .ensures, c .before .fault-at .ensures, lt-leb (length (updateBytes (a .id) (a .number) (a .value .now))) (length (a .out .now)) (omega (arith, t .if1 .taken, length-update (a .id) (a .number) (a .value .now))))
+    rw (c .bare .ensures, lt-leb (length (updateBytes (a .id) (a .number) (a .value .now))) (length (a .out .now)) (omega (arith, t .if1 .taken, length-update (a .id) (a .number) (a .value .now))))
 
 write-update-requires : tie.Need-write-update-requires
 write-update-requires c κs = search needs
@@ -59,8 +56,7 @@ store-update-spec =
     tie.close
     (tie.spec
     add-if1
-    fault-at-requires
-    refused-requires
+    bare-requires
     returns
     write-update-requires
     store-value-requires

@@ -11,18 +11,15 @@ use borrow.Author.Needs.{needs}
 use Rattle.perform.proofs.turn_away.Statement.{statement}
 use Rattle.perform.proofs.turn_away.Tie as tie
 
-fault-at-requires : tie.Need-fault-at-requires
-fault-at-requires c κs = search needs
-
-refused-requires : tie.Need-refused-requires
-refused-requires c κs = search needs
+bare-requires : tie.Need-bare-requires
+bare-requires c κs = search needs
 
 returns : tie.Need-returns
 unfolding execute pick
 returns c = λ table.
-    let t = c .before .before in
+    let t = c .before in
     let a = t .before .before .before .args in
-    rw (c .refused .ensures, c .before .fault-at .ensures, lt-leb (length (revisionBytes unsupportedKind protocolRevision)) (length (a .out .now)) (omega (arith, t .if1 .taken, length-revision unsupportedKind protocolRevision)))
+    rw (c .bare .ensures, lt-leb (length (revisionBytes unsupportedKind protocolRevision)) (length (a .out .now)) (omega (arith, t .if1 .taken, length-revision unsupportedKind protocolRevision)))
 
 only-sender-requires : tie.Need-only-sender-requires
 only-sender-requires c κs = search needs
@@ -55,8 +52,7 @@ pub turn-away-spec : {M : Type 1} → statement M
 turn-away-spec =
     tie.close
     (tie.spec
-    fault-at-requires
-    refused-requires
+    bare-requires
     returns
     only-sender-requires
     write-revision-requires

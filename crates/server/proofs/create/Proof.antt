@@ -1,10 +1,11 @@
 -- `create` is the step of a local create: soundness decides, then the verdict is performed.
 use mathlib.Core.Path.{_≡_, sym, ap, _∙_}
 use borrow.Author.Tests.{not-true}
-use Rattle.answer.proofs.RecipientLaws.{others-all}
+use Rattle.recipients.proofs.RecipientLaws.{others-all}
 use Rattle.field.specs.Choice.{pick}
 use Rattle.table.specs.Table.{TableMemory, tableMemory, entriesOf, maxEntries}
 use Rattle.protocol.specs.Step.{execute, callStep}
+use Rattle.protocol.specs.Place.{callPlace}
 use Rattle.judge.specs.declared.CreateDecision.{CreateDecision}
 use Rattle.judge.specs.Decision.{createVerdict}
 use Rattle.judge.proofs.DecisionLaws.{known-creatable}
@@ -40,8 +41,8 @@ decided c d e =
 is-sound-requires : tie.Need-is-sound-requires
 is-sound-requires c κs = search needs
 
-unsound-requires : tie.Need-unsound-requires
-unsound-requires c κs = search needs
+bare-requires : tie.Need-bare-requires
+bare-requires c κs = search needs
 
 same-length : tie.Need-same-length
 same-length c = search needs
@@ -50,8 +51,8 @@ same-length-2 : tie.Need-same-length-2
 same-length-2 c = search needs
 
 returns : tie.Need-returns
-unfolding callStep pick
-returns c = rw (c .unsound .ensures, ← (c .before .before .is-sound .ensures), not-true (c .before .before .is-sound .result) (c .before .if1 .taken))
+unfolding callStep callPlace pick
+returns c = rw (c .bare .ensures, ← (c .before .before .is-sound .ensures), not-true (c .before .before .is-sound .result) (c .before .if1 .taken))
 
 judge-create-requires : tie.Need-judge-create-requires
 unfolding to-start
@@ -87,7 +88,7 @@ same-length-4 : tie.Need-same-length-4
 same-length-4 c = search needs
 
 returns-2 : tie.Need-returns-2
-unfolding callStep execute pick to-start to-sound
+unfolding callStep callPlace execute pick to-start to-sound
 returns-2 c =
     let n = c .before .before in
     let j = n .before .before in
@@ -103,7 +104,7 @@ same-length-7 : tie.Need-same-length-7
 same-length-7 c = search needs
 
 returns-3 : tie.Need-returns-3
-unfolding callStep pick to-start to-sound
+unfolding callStep callPlace pick to-start to-sound
 returns-3 c =
     let k = c .before .before .before .before .before .before in
     let g = k .before .before .before .before .before in
@@ -117,7 +118,7 @@ create-spec =
     tie.close
     (tie.spec
     is-sound-requires
-    unsound-requires
+    bare-requires
     same-length
     same-length-2
     returns

@@ -3,6 +3,7 @@ use borrow.Author.Tests.{not-true}
 use Rattle.field.specs.Choice.{pick}
 use Rattle.table.specs.Table.{TableMemory, tableMemory}
 use Rattle.protocol.specs.Step.{callStep}
+use Rattle.protocol.specs.Place.{callPlace}
 use borrow.Author.Needs.{needs}
 use Rattle.server.proofs.SoundCall.{SoundCall, sound-call}
 use Rattle.server.proofs.receive.Statement.{statement}
@@ -21,8 +22,8 @@ sound c = sound-call _ _ (c .before .is-sound .result) (c .before .is-sound .ens
 is-sound-requires : tie.Need-is-sound-requires
 is-sound-requires c κs = search needs
 
-unsound-requires : tie.Need-unsound-requires
-unsound-requires c κs = search needs
+bare-requires : tie.Need-bare-requires
+bare-requires c κs = search needs
 
 same-length : tie.Need-same-length
 same-length c = search needs
@@ -34,8 +35,8 @@ same-length-3 : tie.Need-same-length-3
 same-length-3 c = search needs
 
 returns : tie.Need-returns
-unfolding callStep pick
-returns c = rw (c .unsound .ensures, ← (c .before .before .is-sound .ensures), not-true (c .before .before .is-sound .result) (c .before .if1 .taken))
+unfolding callStep callPlace pick
+returns c = rw (c .bare .ensures, ← (c .before .before .is-sound .ensures), not-true (c .before .before .is-sound .result) (c .before .if1 .taken))
 
 judge-client-message-requires : tie.Need-judge-client-message-requires
 unfolding to-start
@@ -61,7 +62,7 @@ same-length-7 : tie.Need-same-length-7
 same-length-7 c = search needs
 
 returns-2 : tie.Need-returns-2
-unfolding callStep pick to-start
+unfolding callStep callPlace pick to-start
 returns-2 c =
     let k = c .before .before .before .before .before .before .before .before in
     let j = k .before .before .before .before .before .before in
@@ -73,7 +74,7 @@ receive-spec =
     tie.close
     (tie.spec
     is-sound-requires
-    unsound-requires
+    bare-requires
     same-length
     same-length-2
     same-length-3

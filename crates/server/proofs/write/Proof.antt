@@ -5,9 +5,10 @@ use borrow.Author.Tests.{not-true}
 use Rattle.field.specs.Choice.{pick}
 use Rattle.table.specs.Table.{TableMemory, tableMemory, entriesOf, maxEntries}
 use Rattle.protocol.specs.Step.{execute, callStep}
+use Rattle.protocol.specs.Place.{callPlace}
 use native.Mathlib.Omega.{arith}
-use Rattle.answer.specs.Recipients.{allGreeted}
-use Rattle.answer.proofs.RecipientLaws.{others-all}
+use Rattle.recipients.specs.Recipients.{allGreeted}
+use Rattle.recipients.proofs.RecipientLaws.{others-all}
 use Rattle.judge.specs.declared.WriteDecision.{WriteDecision}
 use Rattle.judge.specs.Decision.{writeVerdict}
 use Rattle.judge.proofs.DecisionLaws.{known-writable}
@@ -44,8 +45,8 @@ decided c d e =
 is-sound-requires : tie.Need-is-sound-requires
 is-sound-requires c κs = search needs
 
-unsound-requires : tie.Need-unsound-requires
-unsound-requires c κs = search needs
+bare-requires : tie.Need-bare-requires
+bare-requires c κs = search needs
 
 same-length : tie.Need-same-length
 same-length c = search needs
@@ -54,8 +55,8 @@ same-length-2 : tie.Need-same-length-2
 same-length-2 c = search needs
 
 returns : tie.Need-returns
-unfolding callStep pick
-returns c = rw (c .unsound .ensures, ← (c .before .before .is-sound .ensures), not-true (c .before .before .is-sound .result) (c .before .if1 .taken))
+unfolding callStep callPlace pick
+returns c = rw (c .bare .ensures, ← (c .before .before .is-sound .ensures), not-true (c .before .before .is-sound .result) (c .before .if1 .taken))
 
 judge-write-requires : tie.Need-judge-write-requires
 unfolding to-start
@@ -98,7 +99,7 @@ same-length-4 : tie.Need-same-length-4
 same-length-4 c = search needs
 
 returns-2 : tie.Need-returns-2
-unfolding callStep execute pick to-start to-sound
+unfolding callStep callPlace execute pick to-start to-sound
 returns-2 c =
     let n = c .before .before in
     let j = n .before .before in
@@ -111,7 +112,7 @@ same-length-6 : tie.Need-same-length-6
 same-length-6 c = search needs
 
 returns-3 : tie.Need-returns-3
-unfolding callStep execute pick to-start to-sound
+unfolding callStep callPlace execute pick to-start to-sound
 returns-3 c =
     let t = c .before in
     let j = t .before .before in
@@ -127,7 +128,7 @@ same-length-9 : tie.Need-same-length-9
 same-length-9 c = search needs
 
 returns-4 : tie.Need-returns-4
-unfolding callStep pick to-start to-sound
+unfolding callStep callPlace pick to-start to-sound
 returns-4 c =
     let k = c .before .before .before .before .before .before in
     let g = k .before .before .before .before in
@@ -141,7 +142,7 @@ write-spec =
     tie.close
     (tie.spec
     is-sound-requires
-    unsound-requires
+    bare-requires
     same-length
     same-length-2
     returns

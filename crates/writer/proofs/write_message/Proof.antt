@@ -1,4 +1,4 @@
--- `write_message` answers and leaves what `writeResult` says: what the fields need is told, and the laws of needing settle the three ways out.
+-- `write_message` answers and leaves what `writeWithPlace` says: what the fields need is told, and the laws of needing settle the three ways out.
 use Prim.Native.Nat.{_≤_, _<_}
 use native.Mathlib.Omega.{arith}
 use mathlib.Core.Path.{_≡_, sym, _∙_}
@@ -44,15 +44,19 @@ enum-told c = search needs
 fault-of-requires : tie.Need-fault-of-requires
 fault-of-requires c κs = search needs
 
+refused-requires : tie.Need-refused-requires
+refused-requires c κs = search needs
+
 returns : tie.Need-returns
 returns c =
-    let e = c .before .enum-told .given in
-    let f = c .before .before .before in
+    let u = c .before in
+    let e = u .before .enum-told .given in
+    let f = u .before .before .before in
     let h = needs-refused (check (fields f)) (f .before .before .before .before .args .out .now) (e .0 .0) (sym (e .1) ∙ needed-is f) in
-    rw (c .fault-of .ensures, e .1) h
+    rw (c .refused .ensures, u .fault-of .ensures, e .1) h
 
-fault-at-requires : tie.Need-fault-at-requires
-fault-at-requires c κs = search needs
+bare-requires : tie.Need-bare-requires
+bare-requires c κs = search needs
 
 returns-2 : tie.Need-returns-2
 returns-2 d =
@@ -61,12 +65,15 @@ returns-2 d =
     let f = n .before .before in
     let out = f .before .before .before .before .args .out .now in
     let short : length out < n .needed .given .0 .0 = omega (arith, c .if1 .taken) in
-    rw (d .fault-at .ensures)
+    rw (d .bare .ensures)
     (needs-more (check (fields f)) out (n .needed .given .0 .0) (sym (n .needed .given .1) ∙ needed-is f) short)
 
 write-checked-requires : tie.Need-write-checked-requires
 unfolding to-checked
 write-checked-requires c κs = is-ready (c .before)
+
+done-requires : tie.Need-done-requires
+done-requires c κs = search needs
 
 same-length : tie.Need-same-length
 same-length c = search needs
@@ -74,11 +81,12 @@ same-length c = search needs
 returns-3 : tie.Need-returns-3
 unfolding to-checked
 returns-3 c =
-    let w = c .before .before in
+    let w = c .before .before .before in
     let l = w .before .before in
     let f = to-checked l in
-    ready-sent (check (fields f)) (f .before .before .before .before .args .out .now) (is-ready l) (w .write-checked .result) (w .write-checked .last .1 .1 .1 .1 .1 .1 .1 .0)
-    (w .write-checked .ensures .0) (w .write-checked .ensures .1)
+    rw (c .done .ensures)
+    (ready-sent (check (fields f)) (f .before .before .before .before .args .out .now) (is-ready l) (w .write-checked .result) (w .write-checked .last .1 .1 .1 .1 .1 .1 .1 .0)
+    (w .write-checked .ensures .0) (w .write-checked .ensures .1))
 
 pub write-message-spec : {M : Type 1} → statement M
 write-message-spec =
@@ -88,9 +96,11 @@ write-message-spec =
     enum-known-needed
     enum-told
     fault-of-requires
+    refused-requires
     returns
-    fault-at-requires
+    bare-requires
     returns-2
     write-checked-requires
+    done-requires
     same-length
     returns-3)

@@ -12,7 +12,7 @@ use lib.Pow.{pow-pos, pow-add}
 use lib.ListN.{getD}
 use borrow.Author.Tests.{eq-eqb, ne-eqb}
 use Rattle.field.specs.Choice.{pick}
-use Rattle.answer.specs.Recipients.{nobody, sender, allGreeted, otherGreeted, isRecipient, bitSet, testBit, recipientSet, RecipientBit, GreetedReceives}
+use Rattle.recipients.specs.Recipients.{nobody, sender, allGreeted, otherGreeted, isRecipient, bitSet, testBit, recipientSet, RecipientBit, GreetedReceives}
 
 -- ---- one bit more
 

@@ -1,7 +1,7 @@
 use borrow.Author.Tests.{eq-eqb, ne-eqb}
 use Rattle.field.specs.Choice.{pick}
-use Rattle.answer.proofs.weight.Statement.{statement}
-use Rattle.answer.proofs.weight.Tie as tie
+use Rattle.recipients.proofs.weight.Statement.{statement}
+use Rattle.recipients.proofs.weight.Tie as tie
 
 returns : tie.Need-returns
 unfolding pick

@@ -4,10 +4,10 @@ use mathlib.Core.Bool.{Bool}
 use Prim.Native.Nat.{ℕ, _+_, _-_, _^_, _≤_}
 use native.Mathlib.Omega.{arith}
 use lib.Pow.{pow-mono}
-use Rattle.answer.specs.Recipients.{otherGreeted, isRecipient, bitSet, recipientSet}
-use Rattle.answer.proofs.RecipientLaws.{bits-none, bits-more, bits-lt, power-more}
-use Rattle.answer.proofs.other_greeted.Statement.{statement}
-use Rattle.answer.proofs.other_greeted.Tie as tie
+use Rattle.recipients.specs.Recipients.{otherGreeted, isRecipient, bitSet, recipientSet}
+use Rattle.recipients.proofs.RecipientLaws.{bits-none, bits-more, bits-lt, power-more}
+use Rattle.recipients.proofs.other_greeted.Statement.{statement}
+use Rattle.recipients.proofs.other_greeted.Tie as tie
 
 abbrev Inv-loop : tie.InvT-loop
 Inv-loop marks left-out set₀ power₀ c₀ set power c = (c ≤ 16) × (power ≡ 2 ^ c) × (set ≡ bitSet c (isRecipient (otherGreeted left-out) marks))

@@ -3,9 +3,9 @@ use mathlib.Core.Path.{_≡_, refl, sym, ap, _∙_}
 use Prim.Native.Nat.{ℕ, _-_, _^_, _≤_}
 use native.Mathlib.Omega.{arith}
 use lib.Pow.{pow-mono}
-use Rattle.answer.proofs.RecipientLaws.{power-more, sender-set}
-use Rattle.answer.proofs.only_sender.Statement.{statement}
-use Rattle.answer.proofs.only_sender.Tie as tie
+use Rattle.recipients.proofs.RecipientLaws.{power-more, sender-set}
+use Rattle.recipients.proofs.only_sender.Statement.{statement}
+use Rattle.recipients.proofs.only_sender.Tie as tie
 
 abbrev Inv-loop : tie.InvT-loop
 Inv-loop marks c power₀ i₀ power i = (i ≤ c) × (power ≡ 2 ^ i)

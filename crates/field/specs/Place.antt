@@ -1,0 +1,16 @@
+-- "Say where the fault is": an answer tells, beside what it told before, the place of the field that failed.
+use Prim.Native.Nat.{ℕ}
+use mathlib.Core.Bool.{_&&_}
+use lib.Dec.{leb}
+use Rattle.field.specs.Answer.{unknownType, tooLong}
+use Rattle.field.specs.Choice.{pick}
+use Rattle.field.specs.declared.Fault.{Fault}
+
+-- "report, with 7 to 10, the place of the first byte of the field that failed"; "With other numbers .. it is 0."
+unfoldable pub reportedPlace : Fault → ℕ
+reportedPlace fault = pick (leb unknownType (fault .number) && leb (fault .number) tooLong) (fault .place) 0
+
+-- "01's answers gain one field": what a call answers and leaves without it, and the place
+pub record WithPlace (R : Type 0) : Type 0 where
+  pub result : R
+  pub place : ℕ
