@@ -82,12 +82,24 @@ typedef struct {
     uint16_t number;
 } nt2_head;
 
-/* Number, recipients (bit c for connection c), bytes taken and sent. */
+/* Where a fault is: with the numbers 7 to 10 an answer's `place` is that of the first byte of the
+ * field that failed, counted from 0 at the start of the message, name or value lent.
+ *   7   the type byte
+ *   8   the Boolean byte
+ *   9   the first byte of the text, behind its length
+ *   10  the length of a name, String or element, the count of a Double Array, or the first byte left
+ *       after a lone value
+ * It is 0 for a lent name, which has no length before it, and for a type given as a number. With
+ * every other number it is 0.
+ */
+
+/* Number, recipients (bit c for connection c), bytes taken and sent, and the place of a fault. */
 typedef struct {
     uint8_t number;
     uint16_t recipients;
     size_t taken;
     size_t sent;
+    size_t place;
 } nt2_answer;
 
 /* An entry's value as a flag or a number. A NaN is answered as some NaN. */
@@ -98,14 +110,16 @@ typedef struct {
     double value;
 } nt2_scalar;
 
-/* The copy's answer. */
+/* The copy's answer: number, revision reported, bytes taken and the place of a fault. */
 typedef struct {
     uint8_t number;
     uint16_t revision;
     size_t taken;
+    size_t place;
 } nt2_copied;
 
-/* A message's fields. A name starts at byte 3, a value ends at byte `taken`. */
+/* A message's fields. A name starts at byte 3, a value ends at byte `taken`. With a refusal there are
+ * number and place alone. */
 typedef struct {
     uint8_t number;
     uint8_t kind;
@@ -116,6 +130,7 @@ typedef struct {
     size_t taken;
     size_t name_length;
     size_t value_length;
+    size_t place;
 } nt2_fields;
 
 /* A server's table: 64 heads, 20,480 bytes, a count and 16 connection marks, or more of them. */

@@ -34,6 +34,10 @@ pub struct Head {
 }
 
 /// `nt2_answer`: number, recipients, bytes taken and sent.
+///
+/// With the numbers 7 to 10 `place` is that of the first byte of the field that failed, counted from
+/// the start of the message, name or value lent; it is 0 for a type given as a number, and with every
+/// other number.
 #[repr(C)]
 #[derive(Clone, Copy, Debug, Default, PartialEq, Eq)]
 pub struct Answer {
@@ -41,6 +45,7 @@ pub struct Answer {
     pub recipients: u16,
     pub taken: usize,
     pub sent: usize,
+    pub place: usize,
 }
 
 /// `nt2_scalar`: `found` is 0 for a Boolean, 1 for a Double, 2 for neither, and 0 with a refusal.
@@ -53,16 +58,18 @@ pub struct Scalar {
     pub value: f64,
 }
 
-/// `nt2_copied`: the copy's answer.
+/// `nt2_copied`: the copy's answer. Its `place` is as in [`Answer`].
 #[repr(C)]
 #[derive(Clone, Copy, Debug, Default, PartialEq, Eq)]
 pub struct Copied {
     pub number: u8,
     pub revision: u16,
     pub taken: usize,
+    pub place: usize,
 }
 
-/// `nt2_fields`: a message's fields. A name starts at byte 3, a value ends at byte `taken`.
+/// `nt2_fields`: a message's fields. A name starts at byte 3, a value ends at byte `taken`. With a
+/// refusal there are number and `place` alone, which is as in [`Answer`].
 #[repr(C)]
 #[derive(Clone, Copy, Debug, Default, PartialEq, Eq)]
 pub struct Fields {
@@ -75,6 +82,7 @@ pub struct Fields {
     pub taken: usize,
     pub name_length: usize,
     pub value_length: usize,
+    pub place: usize,
 }
 
 /// A table as it is lent to a call: heads, bytes and count.
@@ -221,8 +229,8 @@ mod functions {
 #[cfg(target_pointer_width = "64")]
 const _: () = {
     assert!(size_of::<Head>() == 8);
-    assert!(size_of::<Answer>() == 24);
+    assert!(size_of::<Answer>() == 32);
     assert!(size_of::<Scalar>() == 16);
-    assert!(size_of::<Copied>() == 16);
-    assert!(size_of::<Fields>() == 40);
+    assert!(size_of::<Copied>() == 24);
+    assert!(size_of::<Fields>() == 48);
 };

@@ -14,21 +14,20 @@ use nt2_sys::{Answer, Copied, Fields, LentTable, Scalar};
 pub use server::{create, fresh, leave, open, receive, write};
 use table::Table;
 use wire::{
-    ASSIGNMENT, Assignment, HELLO, HELLO_COMPLETE, Judged, KEEP_ALIVE, Reader, Refusal, Type,
-    UNSUPPORTED, UPDATE, check_name, check_value, write_revision, write_update,
+    ASSIGNMENT, Assignment, Fault, HELLO, HELLO_COMPLETE, Judged, KEEP_ALIVE, Reader, Refusal,
+    Type, UNSUPPORTED, UPDATE, check_name, check_value, write_revision, write_update,
 };
 
 /// The number of a message that is taken and changes nothing.
 const IGNORED: u8 = 16;
 
 fn answer(judged: Judged<Answer>) -> Answer {
-    judged.unwrap_or_else(|refusal| Answer { number: refusal as u8, ..Answer::default() })
+    judged.unwrap_or_else(|Fault { number, place }| Answer { number, place, ..Answer::default() })
 }
 
 /// Reads an entry by ID.
 pub fn read(table: LentTable<'_>, id: u16) -> Scalar {
-    scalar(table, id)
-        .unwrap_or_else(|refusal| Scalar { number: refusal as u8, ..Scalar::default() })
+    scalar(table, id).unwrap_or_else(|Fault { number, .. }| Scalar { number, ..Scalar::default() })
 }
 
 fn scalar(table: LentTable<'_>, id: u16) -> Judged<Scalar> {
@@ -67,17 +66,17 @@ fn encoded(kind: u8, revision: u16, fields: &Assignment<'_>, out: &mut [u8]) -> 
         HELLO | UNSUPPORTED => 3,
         ASSIGNMENT => {
             check_name(fields.name)?;
-            check_value(Type::of(u16::from(fields.type_code))?, fields.value)?;
+            check_value(Type::given(fields.type_code)?, fields.value)?;
             fields.length()
         }
         UPDATE => {
-            check_value(Type::of(u16::from(fields.type_code))?, fields.value)?;
+            check_value(Type::given(fields.type_code)?, fields.value)?;
             5 + fields.value.len()
         }
-        _ => return Err(Refusal::Kind),
+        _ => return Err(Refusal::Kind.into()),
     };
     if out.len() < length {
-        return Err(Refusal::Room);
+        return Err(Refusal::Room.into());
     }
     let sent = match kind {
         HELLO | UNSUPPORTED => write_revision(kind, revision, out),
@@ -93,8 +92,11 @@ fn encoded(kind: u8, revision: u16, fields: &Assignment<'_>, out: &mut [u8]) -> 
 
 /// Reads a message of any kind and ID. An update's type is given.
 pub fn decode(bytes: &[u8], update_type: u8) -> Fields {
-    decoded(bytes, update_type)
-        .unwrap_or_else(|refusal| Fields { number: refusal as u8, ..Fields::default() })
+    decoded(bytes, update_type).unwrap_or_else(|Fault { number, place }| Fields {
+        number,
+        place,
+        ..Fields::default()
+    })
 }
 
 fn decoded(bytes: &[u8], update_type: u8) -> Judged<Fields> {
@@ -105,8 +107,8 @@ fn decoded(bytes: &[u8], update_type: u8) -> Judged<Fields> {
         HELLO | UNSUPPORTED => fields.revision = reader.u16()?,
         ASSIGNMENT => {
             fields.name_length = reader.name()?.len();
-            fields.type_code = reader.u8()?;
-            let kind = Type::of(u16::from(fields.type_code))?;
+            let (type_code, kind) = reader.value_type()?;
+            fields.type_code = type_code;
             fields.id = reader.u16()?;
             fields.entry_number = reader.u16()?;
             fields.value_length = reader.value(kind)?.len();
@@ -114,10 +116,10 @@ fn decoded(bytes: &[u8], update_type: u8) -> Judged<Fields> {
         UPDATE => {
             fields.id = reader.u16()?;
             fields.entry_number = reader.u16()?;
-            let kind = Type::of(u16::from(update_type))?;
+            let kind = Type::given(update_type)?;
             fields.value_length = reader.value(kind)?.len();
         }
-        _ => return Err(Refusal::Kind),
+        _ => return Err(Refusal::Kind.into()),
     }
     fields.taken = reader.at;
     Ok(fields)
@@ -133,8 +135,11 @@ pub fn copy_fresh(table: LentTable<'_>) -> Answer {
 
 /// The copy takes one message of a server.
 pub fn copy_receive(table: LentTable<'_>, message: &[u8]) -> Copied {
-    copied(table, message)
-        .unwrap_or_else(|refusal| Copied { number: refusal as u8, ..Copied::default() })
+    copied(table, message).unwrap_or_else(|Fault { number, place }| Copied {
+        number,
+        place,
+        ..Copied::default()
+    })
 }
 
 fn copied(table: LentTable<'_>, message: &[u8]) -> Judged<Copied> {
@@ -149,18 +154,17 @@ fn copied(table: LentTable<'_>, message: &[u8]) -> Judged<Copied> {
         }
         ASSIGNMENT => {
             let name = reader.name()?;
-            let type_code = reader.u8()?;
-            let kind = Type::of(u16::from(type_code))?;
+            let (type_code, kind) = reader.value_type()?;
             if usize::from(reader.u16()?) != table.count() {
-                return Err(Refusal::AssignmentId);
+                return Err(Refusal::AssignmentId.into());
             }
             let number = reader.u16()?;
             let value = reader.value(kind)?;
             if table.find(name).is_some() {
-                return Err(Refusal::NameHeld);
+                return Err(Refusal::NameHeld.into());
             }
             if table.is_full() {
-                return Err(Refusal::Full);
+                return Err(Refusal::Full.into());
             }
             table.append(name, type_code, number, value);
         }
@@ -170,7 +174,7 @@ fn copied(table: LentTable<'_>, message: &[u8]) -> Judged<Copied> {
             let value = reader.value(table.kind(i)?)?;
             table.store(i, number, value);
         }
-        _ => return Err(Refusal::Kind),
+        _ => return Err(Refusal::Kind.into()),
     }
     copied.taken = reader.at;
     Ok(copied)

@@ -41,7 +41,7 @@ pub fn open(table: LentTable<'_>, marks: &mut [u8], connection: usize) -> Answer
     answer(Server::sound(table, marks).and_then(|server| {
         let mark = server.marks.get_mut(connection).ok_or(Refusal::NoSuchConnection)?;
         if *mark != CLOSED {
-            return Err(Refusal::State);
+            return Err(Refusal::State.into());
         }
         *mark = OPEN;
         Ok(Answer::default())
@@ -53,7 +53,7 @@ pub fn leave(table: LentTable<'_>, marks: &mut [u8], connection: usize) -> Answe
     answer(Server::sound(table, marks).and_then(|server| {
         let mark = server.marks.get_mut(connection).ok_or(Refusal::NoSuchConnection)?;
         if *mark == CLOSED {
-            return Err(Refusal::State);
+            return Err(Refusal::State.into());
         }
         *mark = CLOSED;
         Ok(Answer::default())
@@ -84,9 +84,9 @@ pub fn create(
 ) -> Answer {
     answer(Server::sound(table, marks).and_then(|mut server| {
         check_name(name)?;
-        check_value(Type::of(u16::from(type_code))?, value)?;
+        check_value(Type::given(type_code)?, value)?;
         if server.table.find(name).is_some() {
-            return Err(Refusal::NameHeld);
+            return Err(Refusal::NameHeld.into());
         }
         server.assign(name, type_code, value, out)
     }))
@@ -122,7 +122,7 @@ impl<'a> Server<'a> {
     fn sound(table: LentTable<'a>, marks: &'a mut [u8]) -> Judged<Self> {
         let marks: &mut [u8; CONNECTIONS] = marks.first_chunk_mut().ok_or(Refusal::Unsound)?;
         if marks.iter().any(|&mark| mark > GREETED) {
-            return Err(Refusal::Unsound);
+            return Err(Refusal::Unsound.into());
         }
         Ok(Server { table: Table::sound(table)?, marks })
     }
@@ -138,7 +138,7 @@ impl<'a> Server<'a> {
     fn receive(&mut self, connection: usize, message: &[u8], out: &mut [u8]) -> Judged<Answer> {
         let mark = *self.marks.get(connection).ok_or(Refusal::NoSuchConnection)?;
         if mark == CLOSED {
-            return Err(Refusal::State);
+            return Err(Refusal::State.into());
         }
         let mut reader = Reader::new(message);
         let kind = reader.u8()?;
@@ -147,8 +147,8 @@ impl<'a> Server<'a> {
             (HELLO, OPEN) => self.hello(connection, reader, out),
             (ASSIGNMENT, GREETED) => self.assignment(reader, out),
             (UPDATE, GREETED) => self.client_update(connection, reader, out),
-            (HELLO | ASSIGNMENT | UPDATE, _) => Err(Refusal::State),
-            _ => Err(Refusal::Kind),
+            (HELLO | ASSIGNMENT | UPDATE, _) => Err(Refusal::State.into()),
+            _ => Err(Refusal::Kind.into()),
         }
     }
 
@@ -161,12 +161,12 @@ impl<'a> Server<'a> {
         let (mark, sent) = if reader.u16()? == REVISION {
             (GREETED, self.write_entries(out)?)
         } else if out.len() < 3 {
-            return Err(Refusal::Room);
+            return Err(Refusal::Room.into());
         } else {
             (CLOSED, write_revision(UNSUPPORTED, REVISION, out))
         };
         self.marks[connection] = mark;
-        Ok(Answer { number: 0, recipients: 1 << connection, taken: reader.at, sent })
+        Ok(Answer { recipients: 1 << connection, taken: reader.at, sent, ..Answer::default() })
     }
 
     /// One assignment for each entry in rising ID, then the hello's end.
@@ -174,7 +174,7 @@ impl<'a> Server<'a> {
         let table = &self.table;
         let length: usize = (0..table.count()).map(|i| table.assignment(i).length()).sum();
         if out.len() < length + 1 {
-            return Err(Refusal::Room);
+            return Err(Refusal::Room.into());
         }
         let mut end = 0;
         for i in 0..table.count() {
@@ -186,10 +186,9 @@ impl<'a> Server<'a> {
 
     fn assignment(&mut self, mut reader: Reader<'_>, out: &mut [u8]) -> Judged<Answer> {
         let name = reader.name()?;
-        let type_code = reader.u8()?;
-        let kind = Type::of(u16::from(type_code))?;
+        let (type_code, kind) = reader.value_type()?;
         if reader.u16()? != NO_ID {
-            return Err(Refusal::AssignmentId);
+            return Err(Refusal::AssignmentId.into());
         }
         reader.u16()?;
         let value = reader.value(kind)?;
@@ -209,10 +208,10 @@ impl<'a> Server<'a> {
         out: &mut [u8],
     ) -> Judged<Answer> {
         if self.table.is_full() {
-            return Err(Refusal::Full);
+            return Err(Refusal::Full.into());
         }
         if out.len() < 8 + name.len() + value.len() {
-            return Err(Refusal::Room);
+            return Err(Refusal::Room.into());
         }
         let i = self.table.count();
         self.table.append(name, type_code, START, value);
@@ -235,13 +234,13 @@ impl<'a> Server<'a> {
         }
         let sent = self.update(i, number, value, out)?;
         let recipients = self.greeted() & !(1 << connection);
-        Ok(Answer { number: 0, recipients, taken, sent })
+        Ok(Answer { recipients, taken, sent, ..Answer::default() })
     }
 
     /// Stores number and value of entry i and writes the update.
     fn update(&mut self, i: usize, number: u16, value: &[u8], out: &mut [u8]) -> Judged<usize> {
         if out.len() < 5 + value.len() {
-            return Err(Refusal::Room);
+            return Err(Refusal::Room.into());
         }
         self.table.store(i, number, value);
         Ok(write_update(i as u16, number, value, out))

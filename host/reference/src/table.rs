@@ -21,7 +21,7 @@ impl<'a> Table<'a> {
     pub fn sound(lent: LentTable<'a>) -> Judged<Self> {
         let table = Table::large_enough(lent)?;
         if table.count() > ENTRIES || !(0..table.count()).all(|i| table.is_sound_entry(i)) {
-            return Err(Refusal::Unsound);
+            return Err(Refusal::Unsound.into());
         }
         Ok(table)
     }
@@ -33,7 +33,7 @@ impl<'a> Table<'a> {
         {
             return false;
         }
-        let Ok(kind) = Type::of(head.type_code) else {
+        let Some(kind) = Type::of(head.type_code) else {
             return false;
         };
         check_name(self.name(i)).is_ok()
@@ -69,13 +69,13 @@ impl<'a> Table<'a> {
 
     /// The type of an entry of a sound table.
     pub fn kind(&self, i: usize) -> Judged<Type> {
-        Type::of(self.heads[i].type_code)
+        Ok(Type::of(self.heads[i].type_code).ok_or(Refusal::Unsound)?)
     }
 
     /// The place of an ID.
     pub fn held(&self, id: u16) -> Judged<usize> {
         let i = usize::from(id);
-        if i < self.count() { Ok(i) } else { Err(Refusal::UnknownId) }
+        if i < self.count() { Ok(i) } else { Err(Refusal::UnknownId.into()) }
     }
 
     pub fn find(&self, name: &[u8]) -> Option<usize> {

@@ -35,7 +35,27 @@ pub enum Refusal {
     Unsound = 14,
 }
 
-pub type Judged<T> = Result<T, Refusal>;
+/// A refusal's number and place: with 7 to 10 that of the first byte of the field that failed.
+#[derive(Clone, Copy, Debug, PartialEq, Eq)]
+pub struct Fault {
+    pub number: u8,
+    pub place: usize,
+}
+
+impl Refusal {
+    pub fn at(self, place: usize) -> Fault {
+        Fault { number: self as u8, place }
+    }
+}
+
+/// Other refusals have the place 0, and so has a type that is given as a number.
+impl From<Refusal> for Fault {
+    fn from(refusal: Refusal) -> Self {
+        refusal.at(0)
+    }
+}
+
+pub type Judged<T> = Result<T, Fault>;
 
 #[derive(Clone, Copy, Debug, PartialEq, Eq)]
 pub enum Type {
@@ -48,16 +68,21 @@ pub enum Type {
 }
 
 impl Type {
-    pub fn of(code: u16) -> Judged<Type> {
-        match code {
-            0x00 => Ok(Type::Boolean),
-            0x01 => Ok(Type::Double),
-            0x02 => Ok(Type::String),
-            0x10 => Ok(Type::BooleanArray),
-            0x11 => Ok(Type::DoubleArray),
-            0x12 => Ok(Type::StringArray),
-            _ => Err(Refusal::Type),
-        }
+    pub fn of(code: u16) -> Option<Type> {
+        Some(match code {
+            0x00 => Type::Boolean,
+            0x01 => Type::Double,
+            0x02 => Type::String,
+            0x10 => Type::BooleanArray,
+            0x11 => Type::DoubleArray,
+            0x12 => Type::StringArray,
+            _ => return None,
+        })
+    }
+
+    /// A type given as a number, not as a byte of something lent.
+    pub fn given(code: u8) -> Judged<Type> {
+        Ok(Type::of(u16::from(code)).ok_or(Refusal::Type)?)
     }
 }
 
@@ -87,14 +112,24 @@ impl<'a> Reader<'a> {
         Ok(u16::from_be_bytes([field[0], field[1]]))
     }
 
+    /// A type byte, and the type that it stands for.
+    pub fn value_type(&mut self) -> Judged<(u8, Type)> {
+        let place = self.at;
+        let code = self.u8()?;
+        let kind = Type::of(u16::from(code)).ok_or(Refusal::Type.at(place))?;
+        Ok((code, kind))
+    }
+
     /// A text behind its prefix, which with `used` bytes before it may reach up to `limit`.
     fn text(&mut self, used: usize, limit: usize) -> Judged<&'a [u8]> {
+        let prefix = self.at;
         let length = usize::from(self.u16()?);
         if used + length > limit {
-            return Err(Refusal::TooLong);
+            return Err(Refusal::TooLong.at(prefix));
         }
+        let start = self.at;
         let text = self.take(length)?;
-        check_utf8(text)?;
+        check_utf8(text, start)?;
         Ok(text)
     }
 
@@ -120,7 +155,7 @@ impl<'a> Reader<'a> {
             Type::DoubleArray => {
                 let count = usize::from(self.u8()?);
                 if 1 + 8 * count > VALUE_ROOM {
-                    return Err(Refusal::TooLong);
+                    return Err(Refusal::TooLong.at(start));
                 }
                 self.take(8 * count)?;
             }
@@ -137,24 +172,25 @@ impl<'a> Reader<'a> {
     fn booleans(&mut self, count: usize) -> Judged<()> {
         let rest = &self.bytes[self.at..];
         let there = &rest[..count.min(rest.len())];
-        if there.iter().any(|&byte| byte > 1) {
-            return Err(Refusal::Boolean);
+        if let Some(bad) = there.iter().position(|&byte| byte > 1) {
+            return Err(Refusal::Boolean.at(self.at + bad));
         }
         self.take(count)?;
         Ok(())
     }
 }
 
-fn check_utf8(text: &[u8]) -> Judged<()> {
-    str::from_utf8(text).map(|_| ()).map_err(|_| Refusal::Text)
+/// A text that starts at this place.
+fn check_utf8(text: &[u8], start: usize) -> Judged<()> {
+    str::from_utf8(text).map(|_| ()).map_err(|_| Refusal::Text.at(start))
 }
 
 /// A name lent without its prefix.
 pub fn check_name(name: &[u8]) -> Judged<()> {
     if name.len() > NAME_ROOM {
-        return Err(Refusal::TooLong);
+        return Err(Refusal::TooLong.at(0));
     }
-    check_utf8(name)
+    check_utf8(name, 0)
 }
 
 /// A value that has to fill its bytes.
@@ -162,7 +198,7 @@ pub fn check_value(kind: Type, bytes: &[u8]) -> Judged<()> {
     let mut reader = Reader::new(bytes);
     reader.value(kind)?;
     if reader.at < bytes.len() {
-        return Err(Refusal::TooLong);
+        return Err(Refusal::TooLong.at(reader.at));
     }
     Ok(())
 }
@@ -235,33 +271,72 @@ mod tests {
 
     use super::*;
     use std::vec;
+    use std::vec::Vec;
+
+    fn string(length: u16) -> Vec<u8> {
+        [&length.to_be_bytes()[..], &[b'x'; 300][..length.into()]].concat()
+    }
+
+    /// A count and so many zeros.
+    fn array(count: u8, zeros: usize) -> Vec<u8> {
+        [&[count][..], &[0; 600][..zeros]].concat()
+    }
 
     #[test]
     fn both_sides_of_the_limits() {
-        let string =
-            |length: u16| [&length.to_be_bytes()[..], &[b'x'; 300][..length.into()]].concat();
-        let array = |count: u8, bytes: usize| [&[count][..], &[0; 600][..bytes]].concat();
         let cases = [
             (Type::String, string(254), Ok(())),
-            (Type::String, string(255), Err(Refusal::TooLong)),
+            (Type::String, string(255), Err(Refusal::TooLong.at(0))),
             (Type::BooleanArray, array(255, 255), Ok(())),
             (Type::DoubleArray, array(31, 248), Ok(())),
-            (Type::DoubleArray, array(32, 256), Err(Refusal::TooLong)),
+            (Type::DoubleArray, array(32, 256), Err(Refusal::TooLong.at(0))),
             (Type::StringArray, array(127, 254), Ok(())),
-            (Type::StringArray, array(128, 256), Err(Refusal::TooLong)),
-            (Type::StringArray, array(255, 0), Err(Refusal::Incomplete)),
+            (Type::StringArray, array(128, 256), Err(Refusal::TooLong.at(255))),
+            (Type::StringArray, array(255, 0), Err(Refusal::Incomplete.at(0))),
             (Type::StringArray, [&[1][..], &string(253)].concat(), Ok(())),
-            (Type::StringArray, [&[1][..], &string(254)].concat(), Err(Refusal::TooLong)),
-            (Type::BooleanArray, vec![3, 0, 2], Err(Refusal::Boolean)),
-            (Type::BooleanArray, vec![3, 0, 1], Err(Refusal::Incomplete)),
-            (Type::Boolean, vec![2, 0], Err(Refusal::Boolean)),
-            (Type::Boolean, vec![1, 0], Err(Refusal::TooLong)),
+            (Type::StringArray, [&[1][..], &string(254)].concat(), Err(Refusal::TooLong.at(1))),
+            (Type::BooleanArray, vec![3, 0, 2], Err(Refusal::Boolean.at(2))),
+            (Type::BooleanArray, vec![3, 0, 1], Err(Refusal::Incomplete.at(0))),
+            (Type::Boolean, vec![2, 0], Err(Refusal::Boolean.at(0))),
+            (Type::Boolean, vec![1, 0], Err(Refusal::TooLong.at(1))),
         ];
         for (kind, value, judged) in cases {
             assert_eq!(check_value(kind, &value), judged, "{kind:?} {value:?}");
         }
         assert_eq!(check_name(&[b'n'; 64]), Ok(()));
-        assert_eq!(check_name(&[b'n'; 65]), Err(Refusal::TooLong));
+        assert_eq!(check_name(&[b'n'; 65]), Err(Refusal::TooLong.at(0)));
+    }
+
+    /// A text's fault is at its first byte, wherever the bad byte stands.
+    #[test]
+    fn texts_that_are_no_utf8() {
+        let cases = [
+            (Type::String, &b"\x00\x02a\xFF"[..], 2),
+            (Type::StringArray, b"\x02\x00\x01a\x00\x03bc\xFF", 6),
+            (Type::StringArray, b"\x02\x00\x02a\xFF\x00\x01b", 3),
+        ];
+        for (kind, value, place) in cases {
+            assert_eq!(check_value(kind, value), Err(Refusal::Text.at(place)));
+        }
+    }
+
+    /// A fault in a message is counted from its start.
+    #[test]
+    fn places_in_a_message() {
+        let message = b"\x10\x00\x02ab\x03";
+        let mut reader = Reader::new(message);
+        assert_eq!(reader.u8(), Ok(ASSIGNMENT));
+        assert_eq!(reader.name(), Ok(&b"ab"[..]));
+        assert_eq!(reader.value_type(), Err(Refusal::Type.at(5)));
+        for (message, fault) in [
+            (&b"\x10\x00\x41"[..], Refusal::TooLong.at(1)),
+            (b"\x10\x00\x02a\xC3", Refusal::Text.at(3)),
+            (b"\x10\x00\x02a", Refusal::Incomplete.at(0)),
+        ] {
+            let mut reader = Reader::new(message);
+            assert_eq!(reader.u8(), Ok(ASSIGNMENT));
+            assert_eq!(reader.name(), Err(fault));
+        }
     }
 
     #[test]
@@ -269,7 +344,7 @@ mod tests {
         assert_eq!(check_name(&[0xF4, 0x8F, 0xBF, 0xBF]), Ok(()));
         assert_eq!(check_name(&[0]), Ok(()));
         for text in [&[0xC0, 0x80][..], &[0xED, 0xA0, 0x80], &[0xF4, 0x90, 0x80, 0x80]] {
-            assert_eq!(check_name(text), Err(Refusal::Text));
+            assert_eq!(check_name(text), Err(Refusal::Text.at(0)));
         }
     }
 }

@@ -5,7 +5,9 @@ use crate::convergence::Clients;
 use crate::implementation::Implementation;
 use crate::json::Json;
 use crate::memory::{Guarded, Memory};
-use nt2_sys::{Answer, CONNECTIONS, ENTRIES, Head, LONGEST_HELLO_ANSWER, TABLE_BYTES};
+use nt2_sys::{
+    Answer, CONNECTIONS, Copied, ENTRIES, Fields, Head, LONGEST_HELLO_ANSWER, TABLE_BYTES,
+};
 use std::fmt::Write;
 use std::fs;
 use std::path::{Path, PathBuf};
@@ -209,8 +211,8 @@ fn case_call(case: &Json, name: &str) -> Checked<Call> {
     })
 }
 
-/// A case's [number, taken, sent, recipients].
-fn expected_answer(result: &Json) -> Checked<Answer> {
+/// An answer with a case's [number, taken, sent, recipients] and its place.
+fn expected_answer(result: &Json, place: usize) -> Checked<Answer> {
     let [number, taken, sent, recipients] = result.list()? else {
         return Err("an answer has four fields".into());
     };
@@ -219,21 +221,23 @@ fn expected_answer(result: &Json) -> Checked<Answer> {
         taken: taken.number()?,
         sent: sent.number()?,
         recipients: recipients.number()?,
+        place,
     })
 }
 
 fn check_outcome(case: &Json, call: &Call, outcome: Outcome) -> Checked {
-    let expected = expected_answer(member(case, "r")?)?;
+    let place = case.get("p").map_or(Ok(0), Json::number)?;
+    let expected = expected_answer(member(case, "r")?, place)?;
     let (number, taken) = (expected.number, expected.taken);
     let as_expected = match (outcome, call) {
         (Outcome::Answer(answer), _) => answer == expected,
         (Outcome::Copied(copied), _) => {
-            copied.revision == self::number(case, "rev")?
-                && (copied.number, copied.taken) == (number, taken)
+            let revision = self::number(case, "rev")?;
+            copied == Copied { number, revision, taken, place }
         }
         (Outcome::Scalar(_), _) => outcome == expected_scalar(case, number)?,
         (Outcome::Fields(fields), Call::Decode { bytes, .. }) => {
-            (fields.number, fields.taken) == (number, taken)
+            (fields.number, fields.taken, fields.place) == (number, taken, place)
                 && fields_match(case, fields, &bytes.0)?
         }
         (Outcome::Fields(_), _) => false,
@@ -264,8 +268,9 @@ fn expected_scalar(case: &Json, number: u8) -> Checked<Outcome> {
 }
 
 /// Whether all fields are those of the case; fields that its kind lacks are 0.
-fn fields_match(case: &Json, fields: nt2_sys::Fields, message: &[u8]) -> Checked<bool> {
-    let mut expected = nt2_sys::Fields { number: fields.number, ..nt2_sys::Fields::default() };
+fn fields_match(case: &Json, fields: Fields, message: &[u8]) -> Checked<bool> {
+    let Fields { number: answered, place, .. } = fields;
+    let mut expected = Fields { number: answered, place, ..Fields::default() };
     let Some(found) = case.get("x") else {
         return Ok(fields == expected);
     };
@@ -394,11 +399,12 @@ fn check_step<I: Implementation>(
     let [result, sent, hash @ ..] = rest else {
         return Err("a step has an answer and an output".into());
     };
-    let expected = expected_answer(result)?;
     let Outcome::Answer(answer) = outcome else {
         return Err("a step's answer".into());
     };
-    if answer != expected {
+    // A step has no place of its own to compare with.
+    let expected = expected_answer(result, answer.place)?;
+    if answer != expected || !outcome.keeps_form() {
         return Err(format!("{call:?} answers {answer:?}, not {expected:?}"));
     }
     let bytes = &out.lent()[..answer.sent];

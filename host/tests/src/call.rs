@@ -5,6 +5,7 @@ use crate::memory::{Guarded, Memory};
 use nt2_sys::{Answer, Copied, Fields, Scalar};
 use std::fmt;
 use std::hint::black_box;
+use std::ops::RangeInclusive;
 
 /// Bytes that are shown as hex.
 #[derive(Clone, PartialEq, Eq)]
@@ -40,6 +41,9 @@ struct Inputs {
     name: Guarded<u8>,
     value: Guarded<u8>,
 }
+
+/// The numbers of refusals with a place.
+pub const PLACED: RangeInclusive<u8> = 7..=10;
 
 #[derive(Clone, Copy, Debug)]
 pub enum Outcome {
@@ -170,20 +174,29 @@ impl Outcome {
         }
     }
 
-    /// Whether a refusal, or a message ignored, says that nothing came of it.
+    /// The place of a fault; 0 where there is none.
+    pub fn place(&self) -> usize {
+        match self {
+            Outcome::Answer(answer) => answer.place,
+            Outcome::Scalar(_) => 0,
+            Outcome::Fields(fields) => fields.place,
+            Outcome::Copied(copied) => copied.place,
+        }
+    }
+
+    /// Whether a refusal, or a message ignored, says that nothing came of it, and whether only a
+    /// refusal that can have a place has one.
     pub fn keeps_form(&self) -> bool {
-        let refused = (1..=14).contains(&self.number());
+        let (number, place) = (self.number(), self.place());
+        let refused = (1..=14).contains(&number);
         let nothing = match *self {
             Outcome::Answer(a) => a.sent == 0 && a.recipients == 0 && (!refused || a.taken == 0),
-            Outcome::Scalar(s) => {
-                let number = s.number;
-                s == Scalar { number, ..Scalar::default() }
-            }
-            Outcome::Fields(f) => f == Fields { number: f.number, ..Fields::default() },
-            Outcome::Copied(c) => !refused || c == Copied { number: c.number, ..Copied::default() },
+            Outcome::Scalar(s) => s == Scalar { number, ..Scalar::default() },
+            Outcome::Fields(f) => f == Fields { number, place, ..Fields::default() },
+            Outcome::Copied(c) => !refused || c == Copied { number, place, ..Copied::default() },
         };
-        let known = refused || matches!(self.number(), 0 | 16);
-        known && (self.number() == 0 || nothing)
+        let known = refused || matches!(number, 0 | 16);
+        known && (number == 0 || nothing) && (place == 0 || PLACED.contains(&number))
     }
 }
 
