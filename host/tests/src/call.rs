@@ -69,8 +69,8 @@ impl Call {
         "copy_read",
     ];
 
-    /// The call's place among the names.
-    pub fn place(&self) -> usize {
+    /// The call's index among the names.
+    pub fn index(&self) -> usize {
         match self {
             Call::Fresh => 0,
             Call::Open { .. } => 1,

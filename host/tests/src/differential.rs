@@ -1,10 +1,11 @@
 //! Two implementations side by side: the same calls on the same memory, every byte compared.
 
-use crate::call::{Call, Outcome};
+use crate::call::{Call, Outcome, PLACED};
 use crate::generate::{Generator, Weights};
 use crate::implementation::Implementation;
 use crate::memory::{Guarded, Memory};
 use nt2_sys::LONGEST_HELLO_ANSWER;
+use std::collections::BTreeSet;
 use std::marker::PhantomData;
 use std::sync::atomic::{AtomicBool, AtomicU64, Ordering};
 use std::thread;
@@ -13,20 +14,31 @@ use std::time::{Duration, Instant};
 /// Calls of one series, which begins with a table of its own.
 const STEPS: usize = 400;
 
-/// Comparisons by call and number.
+/// Comparisons by call and number, and the places of faults that were met with each.
 #[derive(Clone, Debug)]
 pub struct Report {
     pub comparisons: u64,
     pub numbers: [[u64; 17]; 12],
+    places: BTreeSet<(usize, usize, usize)>,
 }
 
 impl Report {
     fn new() -> Self {
-        Report { comparisons: 0, numbers: [[0; 17]; 12] }
+        Report { comparisons: 0, numbers: [[0; 17]; 12], places: BTreeSet::new() }
+    }
+
+    fn count(&mut self, call: &Call, outcome: Outcome) {
+        let (call, number) = (call.index(), usize::from(outcome.number()));
+        self.comparisons += 1;
+        self.numbers[call][number] += 1;
+        if PLACED.contains(&outcome.number()) {
+            self.places.insert((call, number, outcome.place()));
+        }
     }
 
     fn add(&mut self, other: &Report) {
         self.comparisons += other.comparisons;
+        self.places.extend(&other.places);
         for (row, others) in self.numbers.iter_mut().zip(&other.numbers) {
             row.iter_mut().zip(others).for_each(|(n, m)| *n += m);
         }
@@ -57,16 +69,26 @@ impl Report {
             .collect()
     }
 
-    /// A line for each call: how often it answered with which number.
+    /// A line for each call: how often it answered with which number, and at how many places.
     pub fn lines(&self) -> Vec<String> {
-        let calls = Call::NAMES.iter().zip(&self.numbers);
+        let calls = Call::NAMES.iter().zip(&self.numbers).enumerate();
         calls
-            .map(|(name, counts)| {
+            .map(|(call, (name, counts))| {
                 let met = counts.iter().enumerate().filter(|(_, count)| **count > 0);
-                let met: Vec<String> = met.map(|(n, count)| format!("{n}: {count}")).collect();
+                let met: Vec<String> =
+                    met.map(|(n, count)| format!("{n}: {count}{}", self.at(call, n))).collect();
                 format!("  {name:<12} {}", met.join(", "))
             })
             .collect()
+    }
+
+    /// At how many places a call answered with a number, in words.
+    fn at(&self, call: usize, number: usize) -> String {
+        match self.places.range((call, number, 0)..=(call, number, usize::MAX)).count() {
+            0 => String::new(),
+            1 => " at 1 place".into(),
+            count => format!(" at {count} places"),
+        }
     }
 }
 
@@ -182,8 +204,7 @@ impl<L: Implementation, R: Implementation> Series<L, R> {
         self.generator.keep_sent(&left.out.lent()[..outcome.sent()]);
         left.out.refill(outcome.sent());
         right.out.refill(outcome.sent());
-        self.report.comparisons += 1;
-        self.report.numbers[call.place()][usize::from(outcome.number())] += 1;
+        self.report.count(call, outcome);
         Ok(())
     }
 }

@@ -259,10 +259,8 @@ impl Generator {
 
     fn create(&mut self, server: &Memory) -> (Call, usize) {
         let (name, type_code) = (self.table_name(server, 15), self.type_code());
-        let mut value = self.value_or_fault(type_code);
-        if self.random.percent(8) {
-            value = self.mutated(value);
-        }
+        let value = self.value_or_fault(type_code);
+        let value = self.lone(value);
         let room = self.room(8 + name.len() + value.len());
         (Call::Create { name: Hex(name), type_code, value: Hex(value) }, room)
     }
@@ -278,7 +276,7 @@ impl Generator {
         } else {
             self.value_or_fault(server.heads.lent()[i].type_code as u8)
         };
-        let value = if self.random.percent(8) { self.mutated(value) } else { value };
+        let value = self.lone(value);
         let room = self.room(5 + value.len());
         (Call::Write { id, value: Hex(value) }, room)
     }
@@ -318,10 +316,8 @@ impl Generator {
             _ => self.random.byte(),
         };
         let (name, type_code) = (self.table_name(table, 50), self.type_code());
-        let mut value = self.value_or_fault(type_code);
-        if self.random.percent(8) {
-            value = self.mutated(value);
-        }
+        let value = self.value_or_fault(type_code);
+        let value = self.lone(value);
         let exact = match kind {
             0x10 => 8 + name.len() + value.len(),
             0x11 => 5 + value.len(),
@@ -613,7 +609,20 @@ impl Generator {
         if self.random.percent(92) { self.value(type_code) } else { self.fault(type_code) }
     }
 
-    /// An encoded value with one fault of its type.
+    /// A value for a call that is lent it alone: as it is, mutated, or with bytes left behind it.
+    fn lone(&mut self, mut value: Vec<u8>) -> Vec<u8> {
+        match self.random.weighted(&[89, 8, 3]) {
+            0 => value,
+            1 => self.mutated(value),
+            _ => {
+                let length = 1 + self.random.below(20);
+                value.extend(self.random.bytes(length));
+                value
+            }
+        }
+    }
+
+    /// An encoded value with a fault of its type, some with more behind the first one.
     fn fault(&mut self, type_code: u8) -> Vec<u8> {
         let mut value = self.value(type_code);
         match type_code {
@@ -629,8 +638,10 @@ impl Generator {
                 value.truncate(cut.max(2));
             }
             0x10 if value.len() > 1 => {
-                let at = 1 + self.random.below(value.len() - 1);
-                value[at] = self.random.pick(&[2, 0x80, 0xFF]);
+                for _ in 0..self.random.pick(&[1, 1, 3]) {
+                    let at = 1 + self.random.below(value.len() - 1);
+                    value[at] = self.random.pick(&[2, 0x80, 0xFF]);
+                }
             }
             0x11 => {
                 let count = self.random.pick(&[32, 33, 64, 128, 255]);
@@ -656,7 +667,7 @@ impl Generator {
         value[0] = value[0].saturating_add(1 + self.random.below(3) as u8);
         value.extend(prefixed(&element));
         if self.random.percent(60) {
-            value.extend(prefixed(b"x"));
+            value.extend(prefixed(self.random.pick(&[b"x", b"x", b"\xFF"])));
         }
     }
 
