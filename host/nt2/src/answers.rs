@@ -1,5 +1,6 @@
 //! Answers as enums, with the numbers of the build description.
 
+use nt2_sys::{Answer, NAME_ROOM};
 use std::error::Error;
 use std::fmt;
 
@@ -8,98 +9,157 @@ pub(crate) const DONE: u8 = 0;
 /// Number of a message that is taken and changes nothing.
 pub(crate) const IGNORED: u8 = 16;
 
-/// Why a call was refused. It changed no memory.
+/// Number of a text that is not UTF-8.
+const NOT_TEXT: u8 = 9;
+
+/// Why a call was refused; for a bad type, Boolean, text or length with its place. The call changed no
+/// memory.
 #[derive(Clone, Copy, Debug, PartialEq, Eq, Hash)]
-#[repr(u8)]
 pub enum Refusal {
     /// Message or value not complete.
-    Incomplete = 1,
+    Incomplete,
     /// Connection number above 15.
-    NoSuchConnection = 2,
+    NoSuchConnection,
     /// Connection state does not allow this.
-    State = 3,
+    State,
     /// Message kind unknown, or not for this end.
-    Kind = 4,
+    Kind,
     /// Assignment ID not the one allowed.
-    AssignmentId = 5,
+    AssignmentId,
     /// ID not in the table.
-    UnknownId = 6,
-    /// Type unknown.
-    Type = 7,
-    /// Boolean byte not 0 or 1.
-    Boolean = 8,
-    /// Text not UTF-8.
-    Text = 9,
-    /// Name or value too long, or bytes left after a lone value.
-    TooLong = 10,
+    UnknownId,
+    /// Type unknown: the place is that of the type byte.
+    Type(Place),
+    /// Boolean byte not 0 or 1: the place is that of this byte.
+    Boolean(Place),
+    /// Text not UTF-8: the place is that of the text's first byte, whichever byte is wrong.
+    Text(Place),
+    /// Name or value too long, or bytes left after a lone value. The place is that of the length of a
+    /// name, String or element, of the count of a Double Array, or of the first byte left; for a name
+    /// given without its length, of its first byte.
+    TooLong(Place),
     /// Table full.
-    Full = 11,
+    Full,
     /// Output too short.
-    Room = 12,
+    Room,
     /// Name already there.
-    NameHeld = 13,
+    NameHeld,
     /// Lent table unsound or too small.
-    Unsound = 14,
+    Unsound,
 }
 
 impl Refusal {
-    const ALL: [Refusal; 14] = [
-        Refusal::Incomplete,
-        Refusal::NoSuchConnection,
-        Refusal::State,
-        Refusal::Kind,
-        Refusal::AssignmentId,
-        Refusal::UnknownId,
-        Refusal::Type,
-        Refusal::Boolean,
-        Refusal::Text,
-        Refusal::TooLong,
-        Refusal::Full,
-        Refusal::Room,
-        Refusal::NameHeld,
-        Refusal::Unsound,
-    ];
+    /// The refusal with this number, 1 to 14. Those from 7 to 10 need a place, the others have none.
+    pub fn of(number: u8, place: Option<Place>) -> Option<Refusal> {
+        Some(match number {
+            1 => Refusal::Incomplete,
+            2 => Refusal::NoSuchConnection,
+            3 => Refusal::State,
+            4 => Refusal::Kind,
+            5 => Refusal::AssignmentId,
+            6 => Refusal::UnknownId,
+            7 => Refusal::Type(place?),
+            8 => Refusal::Boolean(place?),
+            NOT_TEXT => Refusal::Text(place?),
+            10 => Refusal::TooLong(place?),
+            11 => Refusal::Full,
+            12 => Refusal::Room,
+            13 => Refusal::NameHeld,
+            14 => Refusal::Unsound,
+            _ => return None,
+        })
+    }
 
     /// The refusal's number, 1 to 14.
     pub fn number(self) -> u8 {
-        self as u8
+        self.number_and_words().0
     }
 
-    /// The refusal with this number.
-    pub fn of(number: u8) -> Option<Refusal> {
-        Refusal::ALL.get(usize::from(number).checked_sub(1)?).copied()
+    /// Where the fault is, with the numbers 7 to 10.
+    pub fn place(self) -> Option<Place> {
+        match self {
+            Refusal::Type(place)
+            | Refusal::Boolean(place)
+            | Refusal::Text(place)
+            | Refusal::TooLong(place) => Some(place),
+            _ => None,
+        }
+    }
+
+    fn number_and_words(self) -> (u8, &'static str) {
+        match self {
+            Refusal::Incomplete => (1, "message or value is not complete"),
+            Refusal::NoSuchConnection => (2, "connection number is above 15"),
+            Refusal::State => (3, "connection state does not allow this"),
+            Refusal::Kind => (4, "message kind is unknown, or not for this end"),
+            Refusal::AssignmentId => (5, "assignment ID is not the one allowed"),
+            Refusal::UnknownId => (6, "ID is not in the table"),
+            Refusal::Type(_) => (7, "type is unknown"),
+            Refusal::Boolean(_) => (8, "Boolean byte is not 0 or 1"),
+            Refusal::Text(_) => (NOT_TEXT, "text is not UTF-8"),
+            Refusal::TooLong(Place::Message(_)) => (10, "name or value is too long"),
+            Refusal::TooLong(Place::Name(_)) => (10, "name is too long"),
+            Refusal::TooLong(Place::Value(_)) => {
+                (10, "value is too long, or bytes are left after it")
+            }
+            Refusal::Full => (11, "table is full"),
+            Refusal::Room => (12, "output is too short"),
+            Refusal::NameHeld => (13, "name is already there"),
+            Refusal::Unsound => (14, "lent table is unsound or too small"),
+        }
     }
 }
 
 impl fmt::Display for Refusal {
     fn fmt(&self, f: &mut fmt::Formatter<'_>) -> fmt::Result {
-        f.write_str(match self {
-            Refusal::Incomplete => "message or value not complete",
-            Refusal::NoSuchConnection => "connection number above 15",
-            Refusal::State => "connection state does not allow this",
-            Refusal::Kind => "message kind unknown, or not for this end",
-            Refusal::AssignmentId => "assignment ID not the one allowed",
-            Refusal::UnknownId => "ID not in the table",
-            Refusal::Type => "type unknown",
-            Refusal::Boolean => "Boolean byte not 0 or 1",
-            Refusal::Text => "text not UTF-8",
-            Refusal::TooLong => "name or value too long, or bytes left after a lone value",
-            Refusal::Full => "table full",
-            Refusal::Room => "output too short",
-            Refusal::NameHeld => "name already there",
-            Refusal::Unsound => "lent table unsound or too small",
-        })
+        f.write_str(self.number_and_words().1)?;
+        match self.place() {
+            Some(place) => write!(f, ", at {place}"),
+            None => Ok(()),
+        }
     }
 }
 
 impl Error for Refusal {}
 
-/// Whether a number says that the call is done; otherwise it is ignored.
-pub(crate) fn is_done(number: u8) -> Result<bool, Refusal> {
+/// A byte of what was given to a call, counted from 0.
+#[derive(Clone, Copy, Debug, PartialEq, Eq, Hash)]
+pub enum Place {
+    /// A byte of the message.
+    Message(usize),
+    /// A byte of the name.
+    Name(usize),
+    /// A byte of the encoded value.
+    Value(usize),
+}
+
+impl Place {
+    /// Where a call that is given a name and a value found a fault. The name is judged first, and no
+    /// text starts at a value's first byte.
+    pub(crate) fn in_name_or_value(name: &[u8], answer: Answer) -> Place {
+        let Answer { number, place, .. } = answer;
+        let in_name = name.len() > NAME_ROOM || (number, place) == (NOT_TEXT, 0);
+        if in_name { Place::Name(place) } else { Place::Value(place) }
+    }
+}
+
+impl fmt::Display for Place {
+    fn fmt(&self, f: &mut fmt::Formatter<'_>) -> fmt::Result {
+        match self {
+            Place::Message(place) => write!(f, "byte {place} of the message"),
+            Place::Name(place) => write!(f, "byte {place} of the name"),
+            Place::Value(place) => write!(f, "byte {place} of the value"),
+        }
+    }
+}
+
+/// Whether a number says that the call is done; otherwise it is ignored. A call that reads no bytes has
+/// no place.
+pub(crate) fn is_done(number: u8, place: Option<Place>) -> Result<bool, Refusal> {
     match number {
         DONE => Ok(true),
         IGNORED => Ok(false),
-        number => Err(Refusal::of(number).expect("a number of the build description")),
+        number => Err(Refusal::of(number, place).expect("a number of the build description")),
     }
 }
 
@@ -182,10 +242,29 @@ mod tests {
 
     #[test]
     fn every_refusal_has_its_number() {
-        for (place, refusal) in Refusal::ALL.into_iter().enumerate() {
-            assert_eq!(usize::from(refusal.number()), place + 1);
-            assert_eq!(Refusal::of(refusal.number()), Some(refusal));
+        let place = Some(Place::Value(3));
+        for number in 1..=14 {
+            let refusal = Refusal::of(number, place).unwrap();
+            assert_eq!(refusal.number(), number);
+            let has_place = (7..=10).contains(&number);
+            assert_eq!(refusal.place(), place.filter(|_| has_place));
+            assert_eq!(Refusal::of(number, None), Some(refusal).filter(|_| !has_place));
         }
-        assert_eq!((Refusal::of(0), Refusal::of(15)), (None, None));
+        assert_eq!((Refusal::of(0, place), Refusal::of(15, place)), (None, None));
+    }
+
+    #[test]
+    fn words() {
+        let said = |refusal: Refusal| refusal.to_string();
+        assert_eq!(said(Refusal::Full), "table is full");
+        let text = Refusal::Text(Place::Message(7));
+        assert_eq!(said(text), "text is not UTF-8, at byte 7 of the message");
+        let name = Refusal::TooLong(Place::Name(0));
+        assert_eq!(said(name), "name is too long, at byte 0 of the name");
+        let value = Refusal::TooLong(Place::Value(1));
+        assert_eq!(
+            said(value),
+            "value is too long, or bytes are left after it, at byte 1 of the value"
+        );
     }
 }

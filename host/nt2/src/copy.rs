@@ -1,6 +1,6 @@
 //! The client's copy.
 
-use crate::answers::{Copied, Refusal, Scalar, is_done};
+use crate::answers::{Copied, Place, Refusal, Scalar, is_done};
 use crate::lent;
 use crate::memory::{Entry, Memory};
 
@@ -29,7 +29,7 @@ impl CopyTable {
         let next = self.memory.next_id();
         let answer = lent::copy_receive(self.memory.lend(), message);
         let (taken, revision) = (answer.taken, answer.revision);
-        let stored = is_done(answer.number)?;
+        let stored = is_done(answer.number, Some(Place::Message(answer.place)))?;
         Ok(match *message {
             [0x11, high, low, ..] if stored => {
                 Copied::Stored { taken, id: u16::from_be_bytes([high, low]) }
@@ -41,7 +41,7 @@ impl CopyTable {
         })
     }
 
-    /// Takes all messages of a server's bytes.
+    /// Takes all messages of a server's bytes. A refusal's place counts from the start of its message.
     pub fn receive_all(&mut self, mut bytes: &[u8]) -> Result<(), Refusal> {
         while !bytes.is_empty() {
             let taken = self.receive(bytes)?.taken();

@@ -22,6 +22,17 @@
 //! }
 //! # Ok::<(), nt2::Refusal>(())
 //! ```
+//!
+//! A [`Refusal`] says what is wrong and, of a bad type, Boolean, text or length, where it stands:
+//!
+//! ```
+//! use nt2::{Place, Refusal, ServerTable, Type};
+//!
+//! let refused = ServerTable::new().create(b"lots", Type::BooleanArray, &[2, 1, 7], &mut []);
+//! let refusal = refused.unwrap_err();
+//! assert_eq!(refusal, Refusal::Boolean(Place::Value(2)));
+//! assert_eq!(refusal.to_string(), "Boolean byte is not 0 or 1, at byte 2 of the value");
+//! ```
 
 mod answers;
 mod copy;
@@ -30,7 +41,7 @@ mod memory;
 mod message;
 mod server;
 
-pub use answers::{Copied, Received, Recipients, Refusal, Scalar, Sent, Written};
+pub use answers::{Copied, Place, Received, Recipients, Refusal, Scalar, Sent, Written};
 pub use copy::CopyTable;
 pub use memory::Entry;
 pub use message::{Message, Type, decode, encode};

@@ -45,7 +45,7 @@ impl Memory {
 
     pub fn read(&self, id: u16) -> Result<Scalar, Refusal> {
         let scalar = lent::read(&self.heads, &self.bytes, &self.count, id);
-        is_done(scalar.number)?;
+        is_done(scalar.number, None)?;
         Ok(match scalar.found {
             0 => Scalar::Boolean(scalar.flag),
             1 => Scalar::Double(scalar.value),

@@ -1,6 +1,6 @@
 //! Single messages.
 
-use crate::answers::{Refusal, is_done};
+use crate::answers::{Place, Refusal, is_done};
 use crate::lent;
 
 /// A value's type.
@@ -62,7 +62,8 @@ pub enum Message<'a> {
     },
 }
 
-/// Writes a message at the start of the output and answers its length.
+/// Writes a message at the start of the output and answers its length. A fault's place is one of the
+/// name or of the value.
 pub fn encode(message: &Message<'_>, out: &mut [u8]) -> Result<usize, Refusal> {
     let answer = match *message {
         Message::KeepAlive => lent::encode(0x00, 0, &[], 0, 0, 0, &[], out),
@@ -76,7 +77,11 @@ pub fn encode(message: &Message<'_>, out: &mut [u8]) -> Result<usize, Refusal> {
             lent::encode(0x11, 0, &[], value_type.code(), id, number, value, out)
         }
     };
-    is_done(answer.number)?;
+    let name = match *message {
+        Message::Assignment { name, .. } => name,
+        _ => &[],
+    };
+    is_done(answer.number, Some(Place::in_name_or_value(name, answer)))?;
     Ok(answer.sent)
 }
 
@@ -84,7 +89,7 @@ pub fn encode(message: &Message<'_>, out: &mut [u8]) -> Result<usize, Refusal> {
 /// given, since the message carries none.
 pub fn decode(bytes: &[u8], update_type: Type) -> Result<(Message<'_>, usize), Refusal> {
     let fields = lent::decode(bytes, update_type.code());
-    is_done(fields.number)?;
+    is_done(fields.number, Some(Place::Message(fields.place)))?;
     let (revision, id, number) = (fields.revision, fields.id, fields.entry_number);
     let value = &bytes[fields.taken - fields.value_length..fields.taken];
     let message = match fields.kind {
@@ -94,7 +99,8 @@ pub fn decode(bytes: &[u8], update_type: Type) -> Result<(Message<'_>, usize), R
         0x03 => Message::HelloComplete,
         0x10 => {
             let name = &bytes[3..3 + fields.name_length];
-            let value_type = Type::of(fields.type_code).ok_or(Refusal::Type)?;
+            let unknown = Refusal::Type(Place::Message(3 + name.len()));
+            let value_type = Type::of(fields.type_code).ok_or(unknown)?;
             Message::Assignment { name, value_type, id, number, value }
         }
         _ => Message::Update { value_type: update_type, id, number, value },

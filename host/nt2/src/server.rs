@@ -1,6 +1,6 @@
 //! The server half.
 
-use crate::answers::{Received, Recipients, Refusal, Scalar, Sent, Written, is_done};
+use crate::answers::{Place, Received, Recipients, Refusal, Scalar, Sent, Written, is_done};
 use crate::lent;
 use crate::memory::{Entry, Memory};
 use crate::message::Type;
@@ -38,13 +38,13 @@ impl ServerTable {
     /// Opens a closed connection.
     pub fn open(&mut self, connection: usize) -> Result<(), Refusal> {
         let answer = lent::open(self.memory.lend(), &mut self.marks, connection);
-        is_done(answer.number).map(|_| ())
+        is_done(answer.number, None).map(|_| ())
     }
 
     /// Closes a connection that is open or greeted.
     pub fn leave(&mut self, connection: usize) -> Result<(), Refusal> {
         let answer = lent::leave(self.memory.lend(), &mut self.marks, connection);
-        is_done(answer.number).map(|_| ())
+        is_done(answer.number, None).map(|_| ())
     }
 
     /// Takes the first message of a client's bytes.
@@ -56,7 +56,7 @@ impl ServerTable {
     ) -> Result<Received<'a>, Refusal> {
         let answer = lent::receive(self.memory.lend(), &mut self.marks, connection, message, out);
         let taken = answer.taken;
-        Ok(if is_done(answer.number)? {
+        Ok(if is_done(answer.number, Some(Place::Message(answer.place)))? {
             Received::Done { taken, sent: sent(answer, out) }
         } else {
             Received::Ignored { taken }
@@ -73,7 +73,7 @@ impl ServerTable {
     ) -> Result<Sent<'a>, Refusal> {
         let table = self.memory.lend();
         let answer = lent::create(table, &mut self.marks, name, value_type.code(), value, out);
-        is_done(answer.number)?;
+        is_done(answer.number, Some(Place::in_name_or_value(name, answer)))?;
         Ok(sent(answer, out))
     }
 
@@ -85,7 +85,7 @@ impl ServerTable {
         out: &'a mut [u8],
     ) -> Result<Written<'a>, Refusal> {
         let answer = lent::write(self.memory.lend(), &mut self.marks, id, value, out);
-        Ok(if is_done(answer.number)? {
+        Ok(if is_done(answer.number, Some(Place::Value(answer.place)))? {
             Written::Done(sent(answer, out))
         } else {
             Written::Ignored

@@ -1,7 +1,7 @@
 //! The build description's example and a copy, by the owned tables.
 
 use nt2::{
-    Copied, CopyTable, LONGEST_HELLO_ANSWER, Message, Received, Recipients, Refusal, Scalar,
+    Copied, CopyTable, LONGEST_HELLO_ANSWER, Message, Place, Received, Recipients, Refusal, Scalar,
     ServerTable, State, Type, Written, decode, encode,
 };
 
@@ -111,9 +111,6 @@ fn refusals_by_name() {
     assert_eq!(table.leave(3), Err(Refusal::State));
     assert_eq!(table.receive(3, &[], &mut out), Err(Refusal::State));
     assert_eq!(table.read(0), Err(Refusal::UnknownId));
-    assert_eq!(table.create(&[b'n'; 65], Type::Boolean, &[1], &mut out), Err(Refusal::TooLong));
-    assert_eq!(table.create(&[0xC0, 0x80], Type::Boolean, &[1], &mut out), Err(Refusal::Text));
-    assert_eq!(table.create(b"", Type::Boolean, &[2], &mut out), Err(Refusal::Boolean));
     assert_eq!(table.create(b"", Type::Boolean, &[1], &mut []), Err(Refusal::Room));
     table.create(b"", Type::Boolean, &[1], &mut out).unwrap();
     assert_eq!(table.create(b"", Type::Boolean, &[1], &mut out), Err(Refusal::NameHeld));
@@ -122,6 +119,58 @@ fn refusals_by_name() {
     assert_eq!(copy.receive(&[0x11, 0x00, 0x00]), Err(Refusal::UnknownId));
     table.fresh();
     assert_eq!(table.count(), 0);
+}
+
+/// A name, type and value that create and the message writer refuse, and how.
+const REFUSED_ENTRIES: [(&[u8], Type, &[u8], Refusal); 8] = [
+    (&[b'n'; 65], Type::Boolean, &[2], Refusal::TooLong(Place::Name(0))),
+    (&[b'n', 0xC0], Type::Boolean, &[2], Refusal::Text(Place::Name(0))),
+    (b"n", Type::Boolean, &[2], Refusal::Boolean(Place::Value(0))),
+    (b"n", Type::Boolean, &[1, 0, 0], Refusal::TooLong(Place::Value(1))),
+    (b"n", Type::String, b"\x00\x02a\xFF", Refusal::Text(Place::Value(2))),
+    (b"n", Type::String, &[0, 255], Refusal::TooLong(Place::Value(0))),
+    (b"n", Type::DoubleArray, &[32], Refusal::TooLong(Place::Value(0))),
+    (b"n", Type::StringArray, b"\x02\x00\x01a\x01\x00", Refusal::TooLong(Place::Value(4))),
+];
+
+#[test]
+fn places_in_names_and_values() {
+    let mut out = [0; 400];
+    let mut table = ServerTable::new();
+    for (name, value_type, value, refusal) in REFUSED_ENTRIES {
+        assert_eq!(table.create(name, value_type, value, &mut out), Err(refusal));
+        let message = Message::Assignment { name, value_type, id: 0, number: 0, value };
+        assert_eq!(encode(&message, &mut out), Err(refusal));
+    }
+    let update = |value| Message::Update { value_type: Type::Boolean, id: 0, number: 0, value };
+    let bytes_left = Refusal::TooLong(Place::Value(1));
+    assert_eq!(encode(&update(&[1, 1]), &mut out), Err(bytes_left));
+    table.create(b"n", Type::Boolean, &[1], &mut out).unwrap();
+    assert_eq!(table.write(0, &[1, 1], &mut out), Err(bytes_left));
+    assert_eq!(table.write(0, &[2, 1], &mut out), Err(Refusal::Boolean(Place::Value(0))));
+}
+
+/// Messages that are refused, a Boolean with the ID 0 being held, and how.
+const REFUSED_MESSAGES: [(&[u8], Refusal); 5] = [
+    (b"\x10\x00\x41", Refusal::TooLong(Place::Message(1))),
+    (b"\x10\x00\x02a\xFF", Refusal::Text(Place::Message(3))),
+    (b"\x10\x00\x02ab\x03", Refusal::Type(Place::Message(5))),
+    (b"\x11\x00\x00\x00\x02\x02", Refusal::Boolean(Place::Message(5))),
+    (b"\x11\x00\x00\x00\x02", Refusal::Incomplete),
+];
+
+#[test]
+fn places_in_messages() {
+    let mut out = [0; 400];
+    let (mut table, mut copy) = (ServerTable::new(), CopyTable::new());
+    copy.receive_all(table.create(b"n", Type::Boolean, &[1], &mut out).unwrap().bytes).unwrap();
+    table.open(3).unwrap();
+    table.receive(3, &[0x01, 0x02, 0x00], &mut out).unwrap();
+    for (message, refusal) in REFUSED_MESSAGES {
+        assert_eq!(table.receive(3, message, &mut out), Err(refusal));
+        assert_eq!(copy.receive(message), Err(refusal));
+        assert_eq!(decode(message, Type::Boolean), Err(refusal));
+    }
 }
 
 #[test]

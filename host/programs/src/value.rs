@@ -1,7 +1,7 @@
 //! Types and values as words: a value is one word, or one for each element of an array.
 
 use crate::failure::Failure;
-use nt2::{Refusal, Type};
+use nt2::{Place, Refusal, Type};
 use std::str::FromStr;
 
 const TYPES: [Type; 6] = [
@@ -59,8 +59,7 @@ pub fn encode_value(value_type: Type, words: &[&str]) -> Result<Vec<u8>, Failure
     let (element, has_count) = elements_of(value_type);
     let mut value = Vec::new();
     if has_count {
-        let count = u8::try_from(words.len()).map_err(|_| Failure::Refused(Refusal::TooLong))?;
-        value.push(count);
+        value.push(u8::try_from(words.len()).map_err(|_| too_long_at(0))?);
     } else if words.len() != 1 {
         let word = type_word(value_type);
         return Err(Failure::Usage(format!("a {word} is one value, not {}", words.len())));
@@ -76,13 +75,17 @@ fn put_element(element: Element, word: &str, value: &mut Vec<u8>) -> Result<(), 
         Element::Boolean => value.push(u8::from(parsed::<bool>(word, "true or false")?)),
         Element::Double => value.extend(parsed::<f64>(word, "a number")?.to_be_bytes()),
         Element::String => {
-            let length = u16::try_from(word.len());
-            let length = length.map_err(|_| Failure::Refused(Refusal::TooLong))?;
+            let length = u16::try_from(word.len()).map_err(|_| too_long_at(value.len()))?;
             value.extend(length.to_be_bytes());
             value.extend(word.as_bytes());
         }
     }
     Ok(())
+}
+
+/// A count or length, at this byte of the value, that has no room for its number.
+fn too_long_at(byte: usize) -> Failure {
+    Failure::Refused(Refusal::TooLong(Place::Value(byte)))
 }
 
 fn parsed<T: FromStr>(word: &str, expected: &str) -> Result<T, Failure> {
@@ -156,7 +159,17 @@ mod tests {
         assert_eq!(status(Type::Double, &["12,5"]), 2);
         assert_eq!(status(Type::String, &[]), 2);
         assert_eq!(status(Type::String, &["two", "words"]), 2);
-        assert_eq!(status(Type::BooleanArray, &["true"; 256]), 1);
-        assert_eq!(status(Type::String, &["x".repeat(65_536).as_str()]), 1);
+    }
+
+    #[test]
+    fn words_that_no_length_has_room_for() {
+        let refusal = |value_type, words: &[&str]| match encode_value(value_type, words) {
+            Err(Failure::Refused(refusal)) => refusal,
+            other => panic!("{other:?}"),
+        };
+        let (at, long) = (|byte| Refusal::TooLong(Place::Value(byte)), "x".repeat(65_536));
+        assert_eq!(refusal(Type::BooleanArray, &["true"; 256]), at(0));
+        assert_eq!(refusal(Type::String, &[&long]), at(0));
+        assert_eq!(refusal(Type::StringArray, &["lot/1", &long]), at(8));
     }
 }

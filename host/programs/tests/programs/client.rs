@@ -3,7 +3,7 @@
 use crate::support::{
     ANY_PORT, HELLO, TIMEOUT, TestClient, TestServer, bytes_of, one_connection, run_at,
 };
-use nt2::{ENTRIES, Message, Refusal, Type};
+use nt2::{ENTRIES, Message, Place, Refusal, Type};
 use nt2_programs::command;
 use nt2_programs::failure::Failure;
 use std::io::{self, BufRead, BufReader, Write};
@@ -47,10 +47,16 @@ fn refusals_change_nothing() {
     let refused = |words: &[&str]| server.run(words).unwrap_err();
     let again = refused(&["create", "tare", "boolean", "false"]);
     assert!(matches!(again, Failure::Refused(Refusal::NameHeld)));
-    assert_eq!(again.to_string(), "refused with 13, name already there");
+    assert_eq!(again.to_string(), "refused with 13, name is already there");
     let (name, value) = ("n".repeat(65), "v".repeat(255));
-    for words in [&["create", &name, "boolean", "true"][..], &["create", "s", "string", &value]] {
-        assert!(matches!(refused(words), Failure::Refused(Refusal::TooLong)));
+    for (words, place) in [
+        (&["create", &name, "boolean", "true"][..], Place::Name(0)),
+        (&["create", "s", "string", &value], Place::Value(0)),
+        (&["create", "s", "strings", "lot/1", &value], Place::Value(8)),
+    ] {
+        let failure = refused(words);
+        assert!(matches!(failure, Failure::Refused(Refusal::TooLong(at)) if at == place));
+        assert_eq!(failure.status(), 1);
     }
     assert!(matches!(refused(&["write", "weight", "1"]), Failure::NoEntry(_)));
     for words in [
@@ -165,8 +171,22 @@ fn wrong_messages_of_a_server() {
     assert_eq!(failure(b"\x02\x03\x00"), "the server speaks revision 0x0300 only");
     assert_eq!(
         failure(b"\x10\x00\x01a\x00\x00\x01\x00\x01\x00\x03"),
-        "the server's message is refused with 5, assignment ID not the one allowed"
+        "the server's message is refused with 5, assignment ID is not the one allowed"
     );
+}
+
+#[test]
+fn place_of_a_fault_in_a_servers_message() {
+    let refused = |bytes: &[u8], words: &str| {
+        // The message stands behind another one, and its place counts from its own start.
+        let failure = answered_with(&[&ASSIGNMENT[..10], bytes].concat(), &["list"]).unwrap_err();
+        let message = format!("the server's message is refused with {words} of the message");
+        assert_eq!(failure.to_string(), message);
+    };
+    refused(b"\x10\x00\x01b\x13", "7, type is unknown, at byte 4");
+    refused(b"\x11\x00\x00\x00\x00\xFF", "8, Boolean byte is not 0 or 1, at byte 5");
+    refused(b"\x10\x00\x02b\xFF\x00\x00\x01", "9, text is not UTF-8, at byte 3");
+    refused(b"\x10\x00\x41", "10, name or value is too long, at byte 1");
 }
 
 #[test]
@@ -270,6 +290,11 @@ fn programs_as_they_are_called() {
     let (status, printed, fault) = client_program(&["--server", address, "write", "weight", "1"]);
     assert_eq!((status, printed.as_str()), (Some(1), ""));
     assert_eq!(fault, "nt2-client: no entry is named \"weight\"\n");
+    let name = "n".repeat(65);
+    let (status, printed, fault) =
+        client_program(&["--server", address, "create", &name, "boolean", "true"]);
+    assert_eq!((status, printed.as_str()), (Some(1), ""));
+    assert_eq!(fault, "nt2-client: refused with 10, name is too long, at byte 0 of the name\n");
     let (status, printed, fault) = client_program(&["--server", address, "remove", "tare"]);
     assert_eq!((status, printed.as_str()), (Some(2), ""));
     assert!(fault.starts_with("nt2-client: usage: "));

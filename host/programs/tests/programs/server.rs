@@ -103,11 +103,37 @@ fn damaged_message_closes_its_sender_only() {
     sender.send_bytes(&stream);
     sender.expect(0, 1);
     sender.expect_end();
-    server.expect("connection 1: refused with 9, text not UTF-8");
+    let refused = "connection 1: refused with 9, text is not UTF-8, at byte 3 of the message";
+    assert_eq!(server.next_notice(), refused);
     assert_eq!(server.next_notice(), "connection 1: left, a message was refused");
     other.expect(0, 1);
     assert_eq!(other.create("after", Type::Boolean, &[1]), 1);
     server.connected(1).greet();
+}
+
+#[test]
+fn notice_says_where_the_fault_is() {
+    let server = TestServer::start();
+    let mut other = server.connected(0);
+    other.greet();
+    other.create("tare", Type::Boolean, &[0]);
+    for (message, refused) in [
+        (&b"\x10\x00\x02ab\x03"[..], "7, type is unknown, at byte 5 of the message"),
+        (b"\x11\0\0\0\x02\x05", "8, Boolean byte is not 0 or 1, at byte 5 of the message"),
+        (
+            b"\x10\0\x01a\x12\xFF\xFF\0\0\x02\0\x01b\0\x02c\xFF",
+            "9, text is not UTF-8, at byte 15 of the message",
+        ),
+        (b"\x10\x00\x41", "10, name or value is too long, at byte 1 of the message"),
+        (&[UNKNOWN_KIND], "4, message kind is unknown, or not for this end"),
+        (b"\x11\x00\x01", "6, ID is not in the table"),
+    ] {
+        let mut client = server.connected(1);
+        client.greet();
+        client.send_bytes(message);
+        assert_eq!(server.next_notice(), format!("connection 1: refused with {refused}"));
+        assert_eq!(server.next_notice(), "connection 1: left, a message was refused");
+    }
 }
 
 #[test]
