@@ -1,5 +1,6 @@
-/* Uses every call of nt2.h and checks its answers: the listing of the build description, then a
- * client's copy that follows a server. Prints the listing, and ends with 1 at the first fault.
+/* Uses every call of nt2.h and checks its answers: the listing of the build description, a client's
+ * copy that follows a server, single messages, and the places of faults. Prints the listing, and
+ * ends with 1 at the first answer that is not as expected.
  *
  * All that is lent is a heap block of its own, exactly as long as it is lent, so that valgrind sees
  * each access beyond it.
@@ -17,26 +18,29 @@ _Static_assert(offsetof(nt2_head, value_length) == 2, "a head's value length");
 _Static_assert(offsetof(nt2_head, type_code) == 4, "a head's type");
 _Static_assert(offsetof(nt2_head, number) == 6, "a head's number");
 
-_Static_assert(sizeof(nt2_answer) == 24, "an answer");
+_Static_assert(sizeof(nt2_answer) == 32, "an answer");
 _Static_assert(offsetof(nt2_answer, recipients) == 2, "an answer's recipients");
 _Static_assert(offsetof(nt2_answer, taken) == 8, "an answer's bytes taken");
 _Static_assert(offsetof(nt2_answer, sent) == 16, "an answer's bytes sent");
+_Static_assert(offsetof(nt2_answer, place) == 24, "the place of an answer's fault");
 
 _Static_assert(sizeof(nt2_scalar) == 16, "a scalar");
 _Static_assert(offsetof(nt2_scalar, found) == 1, "what a scalar's value is");
 _Static_assert(offsetof(nt2_scalar, flag) == 2, "a scalar's flag");
 _Static_assert(offsetof(nt2_scalar, value) == 8, "a scalar's number");
 
-_Static_assert(sizeof(nt2_copied) == 16, "a copy's answer");
+_Static_assert(sizeof(nt2_copied) == 24, "a copy's answer");
 _Static_assert(offsetof(nt2_copied, revision) == 2, "a copy's revision");
 _Static_assert(offsetof(nt2_copied, taken) == 8, "a copy's bytes taken");
+_Static_assert(offsetof(nt2_copied, place) == 16, "the place of a copy's fault");
 
-_Static_assert(sizeof(nt2_fields) == 40, "fields");
+_Static_assert(sizeof(nt2_fields) == 48, "fields");
 _Static_assert(offsetof(nt2_fields, type_code) == 2, "the type");
 _Static_assert(offsetof(nt2_fields, revision) == 4, "the revision");
 _Static_assert(offsetof(nt2_fields, entry_number) == 8, "the entry's number");
 _Static_assert(offsetof(nt2_fields, taken) == 16, "the message's length");
 _Static_assert(offsetof(nt2_fields, value_length) == 32, "the value's length");
+_Static_assert(offsetof(nt2_fields, place) == 40, "the place of a reader's fault");
 
 #define CHECK(condition)                                                        \
     do {                                                                        \
@@ -118,7 +122,13 @@ static void check_rest(const block *out, size_t sent) {
 static bool answers(nt2_answer answer, uint8_t number, size_t taken, size_t sent,
                     uint16_t recipients) {
     return answer.number == number && answer.taken == taken && answer.sent == sent &&
-           answer.recipients == recipients;
+           answer.recipients == recipients && answer.place == 0;
+}
+
+/* A refusal with a place takes and sends nothing, as every other. */
+static bool refused_at(nt2_answer answer, uint8_t number, size_t place) {
+    return answer.number == number && answer.place == place && answer.taken == 0 &&
+           answer.sent == 0 && answer.recipients == 0;
 }
 
 /* The calls with inputs, and with an output of some room. */
@@ -154,16 +164,22 @@ static nt2_answer write_value(table t, uint16_t id, const void *value, size_t le
     return a;
 }
 
+static nt2_answer encode_value(uint8_t kind, const char *name, uint8_t type_code, uint16_t id,
+                               uint16_t number, const void *value, size_t length, block *out,
+                               size_t room) {
+    block n = new_input(name, strlen(name)), v = new_input(value, length);
+    new_output(out, room);
+    nt2_answer a = nt2_encode(kind, 0, LENT(n), type_code, id, number, LENT(v), LENT(*out));
+    check_rest(out, a.sent);
+    free_input(n, name);
+    free_input(v, value);
+    return a;
+}
+
 /* The message writer with a Boolean. */
 static nt2_answer encode(uint8_t kind, const char *name, uint16_t id, uint16_t number, uint8_t flag,
                          block *out, size_t room) {
-    block n = new_input(name, strlen(name)), v = new_input(&flag, 1);
-    new_output(out, room);
-    nt2_answer a = nt2_encode(kind, 0, LENT(n), NT2_BOOLEAN, id, number, LENT(v), LENT(*out));
-    check_rest(out, a.sent);
-    free_input(n, name);
-    free_input(v, &flag);
-    return a;
+    return encode_value(kind, name, NT2_BOOLEAN, id, number, &flag, 1, out, room);
 }
 
 static nt2_fields decode(const void *bytes, size_t length, uint8_t update_type) {
@@ -352,10 +368,109 @@ static void there_and_back(void) {
     free(out.bytes);
 }
 
+/* A message that is refused, and where: entry 0 is a Boolean. */
+typedef struct {
+    const char *message;
+    size_t length, place;
+    uint8_t number;
+} bad_message;
+
+static const bad_message bad_messages[] = {
+    {"\x10\x00\x02zz\x03", 6, 5, NT2_TYPE},
+    {"\x11\x00\x00\x00\x02\x02", 6, 5, NT2_NOT_BOOLEAN},
+    {"\x10\x00\x03zz\xFF", 6, 3, NT2_NOT_TEXT},
+    {"\x10\x00\x41", 3, 1, NT2_TOO_LONG},
+    {"\x11\x00\x00\x00\x02", 5, 0, NT2_INCOMPLETE},
+};
+
+static void places_in_messages(table server, table copy, block *out) {
+    for (size_t i = 0; i < sizeof bad_messages / sizeof *bad_messages; i++) {
+        const bad_message *bad = &bad_messages[i];
+        nt2_answer a = receive(server, 0, bad->message, bad->length, out, NT2_LONGEST_ASSIGNMENT);
+        CHECK(refused_at(a, bad->number, bad->place));
+        nt2_copied c = copy_receive(copy, bad->message, bad->length);
+        CHECK(c.number == bad->number && c.place == bad->place && c.taken == 0);
+        nt2_fields f = decode(bad->message, bad->length, NT2_BOOLEAN);
+        CHECK(f.number == bad->number && f.place == bad->place && f.kind == 0);
+    }
+    /* A type that is given has no place. */
+    nt2_fields f = decode("\x11\x00\x00\x00\x02\x01", 6, 3);
+    CHECK(f.number == NT2_TYPE && f.place == 0);
+}
+
+/* A name and value that are refused, and where. */
+typedef struct {
+    const char *name, *value;
+    size_t length, place;
+    uint8_t type_code, number;
+} bad_entry;
+
+static const bad_entry bad_entries[] = {
+    {"z", "\x01", 1, 0, 3, NT2_TYPE},
+    {"z", "\x02", 1, 0, NT2_BOOLEAN, NT2_NOT_BOOLEAN},
+    {"z", "\x03\x01\x00\x02", 4, 3, NT2_BOOLEAN_ARRAY, NT2_NOT_BOOLEAN},
+    {"z\xFF", "\x01", 1, 0, NT2_BOOLEAN, NT2_NOT_TEXT},
+    {"z", "\x00\x02z\xFF", 4, 2, NT2_STRING, NT2_NOT_TEXT},
+    {"z", "\x00\xFF", 2, 0, NT2_STRING, NT2_TOO_LONG},
+    {"z", "\x20", 1, 0, NT2_DOUBLE_ARRAY, NT2_TOO_LONG},
+    {"z", "\x02\x00\x01z\x01\x00", 6, 4, NT2_STRING_ARRAY, NT2_TOO_LONG},
+    {"z", "\x01\x00\x00", 3, 1, NT2_BOOLEAN, NT2_TOO_LONG},
+};
+
+static void places_in_names_and_values(table server, block *out) {
+    for (size_t i = 0; i < sizeof bad_entries / sizeof *bad_entries; i++) {
+        const bad_entry *bad = &bad_entries[i];
+        nt2_answer a = create(server, bad->name, strlen(bad->name), bad->type_code, bad->value,
+                              bad->length, out, NT2_LONGEST_ASSIGNMENT);
+        CHECK(refused_at(a, bad->number, bad->place));
+        a = encode_value(NT2_ASSIGNMENT, bad->name, bad->type_code, 0, 0, bad->value, bad->length,
+                         out, NT2_LONGEST_ASSIGNMENT);
+        CHECK(refused_at(a, bad->number, bad->place));
+    }
+    char name[NT2_NAME_ROOM + 1];
+    memset(name, 'z', sizeof name);
+    nt2_answer a = create(server, name, sizeof name, NT2_BOOLEAN, "\x02", 1, out, 0);
+    CHECK(refused_at(a, NT2_TOO_LONG, 0));
+}
+
+/* Entry 0 is a Boolean, entry 1 a String Array. */
+static void places_in_written_values(table server, block *out) {
+    nt2_answer a = write_value(server, 0, "\x02\x00", 2, out, 0);
+    CHECK(refused_at(a, NT2_NOT_BOOLEAN, 0));
+    a = write_value(server, 0, "\x01\x00", 2, out, 0);
+    CHECK(refused_at(a, NT2_TOO_LONG, 1));
+    a = write_value(server, 1, "\x02\x00\x01z\x00\x02z\xFF", 8, out, 0);
+    CHECK(refused_at(a, NT2_NOT_TEXT, 6));
+    a = write_value(server, 1, "\x02\x00\x01z\x01\x00", 6, out, 0);
+    CHECK(refused_at(a, NT2_TOO_LONG, 4));
+}
+
+static void places_of_faults(void) {
+    table server = new_table(), copy = new_table();
+    block out = {NULL, 0};
+    CHECK(nt2_fresh(SERVER(server)).number == NT2_DONE);
+    CHECK(nt2_copy_fresh(COPY(copy)).number == NT2_DONE);
+    nt2_answer a = create(server, "tare", 4, NT2_BOOLEAN, "\x01", 1, &out, 13);
+    feed(copy, out.bytes, a.sent);
+    a = create(server, "lots", 4, NT2_STRING_ARRAY, "\x00", 1, &out, 13);
+    feed(copy, out.bytes, a.sent);
+    CHECK(nt2_open(SERVER(server), 0).number == NT2_DONE);
+    a = receive(server, 0, hello, sizeof hello, &out, NT2_LONGEST_HELLO_ANSWER);
+    CHECK(a.number == NT2_DONE);
+    places_in_messages(server, copy, &out);
+    places_in_names_and_values(server, &out);
+    places_in_written_values(server, &out);
+    same_entries(server, copy);
+    free(out.bytes);
+    free_table(copy);
+    free_table(server);
+}
+
 int main(void) {
     listing();
     server_and_copy();
     there_and_back();
+    places_of_faults();
     puts("example: all calls answered as expected");
     return 0;
 }

@@ -87,8 +87,8 @@ typedef struct {
  *   7   the type byte
  *   8   the Boolean byte
  *   9   the first byte of the text, behind its length
- *   10  the length of a name, String or element, the count of a Double Array, or the first byte left
- *       after a lone value
+ *   10  the length of a name, String or element, the count of a Double Array, or the first byte
+ *       left after a lone value
  * It is 0 for a lent name, which has no length before it, and for a type given as a number. With
  * every other number it is 0.
  */
@@ -118,8 +118,8 @@ typedef struct {
     size_t place;
 } nt2_copied;
 
-/* A message's fields. A name starts at byte 3, a value ends at byte `taken`. With a refusal there are
- * number and place alone. */
+/* A message's fields. A name starts at byte 3, a value ends at byte `taken`. A refusal has number
+ * and place alone. */
 typedef struct {
     uint8_t number;
     uint8_t kind;
