@@ -1,0 +1,42 @@
+-- "01's answers gain one field .. Refusals: as before": whoever keeps a call's promise keeps the one that the call had without the place.
+use Prim.Native.Nat.{ℕ}
+use mathlib.Core.List.{List}
+use mathlib.Core.Path.{_≡_}
+use Rattle.table.specs.Table.{maxEntries}
+use Rattle.answer.specs.declared.Answer.{Answer}
+use Rattle.message.specs.Reader.{parseMessage}
+use Rattle.writer.specs.Writer.{Fields, check, writeResult, writeWithPlace, written}
+use Rattle.protocol.specs.Step.{LentCall, callStep}
+use Rattle.protocol.specs.Copy.{copyMessage}
+use Rattle.client.specs.declared.Copied.{Copied}
+use Rattle.fields.specs.Fields.{fields, fieldsOf, fieldsWithPlace, fieldsIn}
+use Rattle.fields.specs.declared.Fields as C
+use Rattle.nt2.specs.Lent.{HeadsTable, HeadsServer, tableOf, serverOf, pastTable, headsAnswered, headsStep, headsCopied, headsCopyMessage}
+
+-- a call of the server half: number, taken, sent, recipients, memory and output are the step's
+abbrev pub CallsAsBefore : Type 0
+CallsAsBefore =
+    (m after : HeadsServer) (k : LentCall) (r : Answer) (out : List ℕ) → headsAnswered r after out ≡ headsStep m k
+    → (record { number = r .number; taken = r .taken; sent = r .sent; recipients = r .recipients; memory = serverOf after; output = out }
+    ≡ callStep maxEntries (serverOf m) k)
+    × (pastTable (after .table) ≡ pastTable (m .table))
+
+-- a message to the copy: number, taken, revision and memory
+abbrev pub CopyAsBefore : Type 0
+CopyAsBefore =
+    (t after : HeadsTable) (message : List ℕ) (r : Copied) → headsCopied r after ≡ headsCopyMessage t message
+    → (record { number = r .number; taken = r .taken; revision = r .revision; memory = tableOf after } ≡ copyMessage maxEntries (tableOf t) message)
+    × (pastTable after ≡ pastTable t)
+
+-- the message writer: number, taken, sent, recipients and output
+abbrev pub WriterAsBefore : Type 0
+WriterAsBefore =
+    (f : Fields) (out after : List ℕ) (r : Answer) → written r after ≡ writeWithPlace (check f) out
+    → record { number = r .number; taken = r .taken; sent = r .sent; recipients = r .recipients; output = after } ≡ writeResult (check f) out
+
+-- the message reader: number, fields and taken
+abbrev pub ReaderAsBefore : Type 0
+ReaderAsBefore =
+    (updateType : ℕ) (m : List ℕ) (r : C.Fields) → fieldsIn r ≡ fieldsWithPlace (parseMessage updateType m)
+    → fields (r .number) (r .kind) (r .«type_code») (r .revision) (r .id) (r .«entry_number») (r .taken) (r .«name_length») (r .«value_length»)
+    ≡ fieldsOf (parseMessage updateType m)
