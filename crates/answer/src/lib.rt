@@ -2,6 +2,7 @@
 use field::DONE;
 use field::Fault;
 use field::IGNORED;
+use field::UNSOUND;
 ghost use mathlib.Core.Path.{_≡_};
 ghost use Rattle.answer.specs.Answers.{bareAnswer, refusedAnswer, ignoredAnswer, doneAnswer};
 
@@ -14,6 +15,15 @@ pub struct Answer {
     pub sent: usize,
     pub place: usize,
 }
+
+// What a call answers on less memory than a table has.
+pub const TOO_SMALL: Answer = Answer {
+    number: UNSOUND,
+    recipients: 0,
+    taken: 0,
+    sent: 0,
+    place: 0,
+};
 
 // A number alone: nothing is taken or sent, and no field failed.
 pub fn bare(number: u8) -> Answer

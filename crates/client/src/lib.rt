@@ -42,6 +42,14 @@ pub struct Copied {
     pub place: usize,
 }
 
+// What reading a message answers on less memory than a copy has.
+pub const TOO_SMALL: Copied = Copied {
+    number: UNSOUND,
+    revision: 0,
+    taken: 0,
+    place: 0,
+};
+
 fn refused(fault: Fault) -> Copied
     ensures { λ r. ⌜ r ≡ refusedCopy fault ⌝ }
 {

@@ -1,6 +1,7 @@
 // The calls on a table in the form that C's calls hand on to: the count is lent, heads are flat numbers, and the answers are C's structs.
 use answer::Answer;
 use field::DONE;
+use field::UNSOUND;
 use scalar::Scalar;
 ghost use mathlib.Core.Path.{_≡_};
 ghost use mathlib.Core.List.{[]};
@@ -21,6 +22,14 @@ pub struct ScalarAnswer {
     pub flag: bool,
     pub value: f64,
 }
+
+// What reading answers on less memory than a table has.
+pub const TOO_SMALL: ScalarAnswer = ScalarAnswer {
+    number: UNSOUND,
+    found: 0,
+    flag: false,
+    value: 0.0,
+};
 
 // The two promises of a fresh start as one.
 pub fn fresh_flat(flat: &[u16], bytes: &[u8], count: &mut u16, marks: &mut [u8]) -> Answer

@@ -1,7 +1,6 @@
 // The calls that are exported to C. Of those on a table, heads become numbers, the call is made on them, and they become heads again.
 use answer::Answer;
 use client::Copied;
-use field::UNSOUND;
 use fields::Fields;
 use flat::ScalarAnswer;
 use heads::Head;
@@ -15,29 +14,6 @@ ghost use Rattle.fields.specs.Fields.{fieldsWithPlace, fieldsIn};
 ghost use Rattle.nt2.specs.Lent.{lent, lentTable, Started, headsAnswered, headsStep, EntryRead};
 ghost use Rattle.nt2.specs.Lent.{CopyStarted, headsCopied, headsCopyMessage};
 
-// What the calls answer on fewer heads than a table has.
-const TOO_FEW: Answer = Answer {
-    number: UNSOUND,
-    recipients: 0,
-    taken: 0,
-    sent: 0,
-    place: 0,
-};
-
-const NOTHING_READ: ScalarAnswer = ScalarAnswer {
-    number: UNSOUND,
-    found: 0,
-    flag: false,
-    value: 0.0,
-};
-
-const NOTHING_COPIED: Copied = Copied {
-    number: UNSOUND,
-    revision: 0,
-    taken: 0,
-    place: 0,
-};
-
 #[no_mangle]
 pub extern "C" fn nt2_fresh(
     heads: &[Head],
@@ -50,7 +26,7 @@ pub extern "C" fn nt2_fresh(
         (lent (heads .entry) (bytes .entry) (count .exit) (marks .exit)) ⌝ }
 {
     if heads.len() < table::MAX_ENTRIES {
-        return TOO_FEW;
+        return answer::TOO_SMALL;
     }
     let mut flat = [0u16; table::HEADS_SIZE];
     heads::load(heads, &mut flat);
@@ -71,7 +47,7 @@ pub extern "C" fn nt2_open(
         (record { call = openConnection connection; output = [] }) ⌝ }
 {
     if heads.len() < table::MAX_ENTRIES {
-        return TOO_FEW;
+        return answer::TOO_SMALL;
     }
     let mut flat = [0u16; table::HEADS_SIZE];
     heads::load(heads, &mut flat);
@@ -92,7 +68,7 @@ pub extern "C" fn nt2_leave(
         (record { call = leave connection; output = [] }) ⌝ }
 {
     if heads.len() < table::MAX_ENTRIES {
-        return TOO_FEW;
+        return answer::TOO_SMALL;
     }
     let mut flat = [0u16; table::HEADS_SIZE];
     heads::load(heads, &mut flat);
@@ -115,7 +91,7 @@ pub extern "C" fn nt2_receive(
         (lentCall (clientMessage connection (now (message .entry))) (out .entry)) ⌝ }
 {
     if heads.len() < table::MAX_ENTRIES {
-        return TOO_FEW;
+        return answer::TOO_SMALL;
     }
     let mut flat = [0u16; table::HEADS_SIZE];
     heads::load(heads, &mut flat);
@@ -141,7 +117,7 @@ pub extern "C" fn nt2_create(
         (lentCall (localCreate (now (name .entry)) «type_code» (now (value .entry))) (out .entry)) ⌝ }
 {
     if heads.len() < table::MAX_ENTRIES {
-        return TOO_FEW;
+        return answer::TOO_SMALL;
     }
     let mut flat = [0u16; table::HEADS_SIZE];
     heads::load(heads, &mut flat);
@@ -166,7 +142,7 @@ pub extern "C" fn nt2_write(
         (lentCall (localWrite id (now (value .entry))) (out .entry)) ⌝ }
 {
     if heads.len() < table::MAX_ENTRIES {
-        return TOO_FEW;
+        return answer::TOO_SMALL;
     }
     let mut flat = [0u16; table::HEADS_SIZE];
     heads::load(heads, &mut flat);
@@ -182,7 +158,7 @@ pub extern "C" fn nt2_read(heads: &[Head], bytes: &[u8], count: &mut u16, id: u1
         (lentTable (heads .entry) (bytes .entry) (count .exit)) ⌝ }
 {
     if heads.len() < table::MAX_ENTRIES {
-        return NOTHING_READ;
+        return flat::TOO_SMALL;
     }
     let mut flat = [0u16; table::HEADS_SIZE];
     heads::load(heads, &mut flat);
@@ -196,7 +172,7 @@ pub extern "C" fn nt2_copy_fresh(heads: &[Head], bytes: &[u8], count: &mut u16) 
         (lentTable (heads .entry) (bytes .entry) (count .exit)) ⌝ }
 {
     if heads.len() < table::MAX_ENTRIES {
-        return TOO_FEW;
+        return answer::TOO_SMALL;
     }
     let mut flat = [0u16; table::HEADS_SIZE];
     heads::load(heads, &mut flat);
@@ -215,7 +191,7 @@ pub extern "C" fn nt2_copy_receive(
         ≡ headsCopyMessage (lentTable (heads .entry) (bytes .entry) (count .entry)) (now (message .entry)) ⌝ }
 {
     if heads.len() < table::MAX_ENTRIES {
-        return NOTHING_COPIED;
+        return client::TOO_SMALL;
     }
     let mut flat = [0u16; table::HEADS_SIZE];
     heads::load(heads, &mut flat);
