@@ -4,6 +4,7 @@ use field::Fault;
 use field::IGNORED;
 use field::UNSOUND;
 ghost use mathlib.Core.Path.{_≡_};
+ghost use Rattle.field.specs.Answer.{unsound};
 ghost use Rattle.answer.specs.Answers.{bareAnswer, refusedAnswer, ignoredAnswer, doneAnswer};
 
 // What a call answers: its number, the set of recipients, bytes taken and bytes sent, and the place of the field that failed.
@@ -16,8 +17,8 @@ pub struct Answer {
     pub place: usize,
 }
 
-// What a call answers on less memory than a table has.
-pub const TOO_SMALL: Answer = Answer {
+// What a call answers on memory that is unsound or too small.
+pub const ON_UNSOUND: Answer = Answer {
     number: UNSOUND,
     recipients: 0,
     taken: 0,
@@ -36,6 +37,12 @@ pub fn bare(number: u8) -> Answer
         sent: 0,
         place: 0,
     }
+}
+
+pub fn unsound() -> Answer
+    ensures { λ r. ⌜ r ≡ bareAnswer unsound ⌝ }
+{
+    ON_UNSOUND
 }
 
 pub fn refused(fault: Fault) -> Answer

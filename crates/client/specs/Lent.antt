@@ -19,6 +19,10 @@ use Rattle.client.specs.declared.CopyDecision.the-variants as D
 abbrev pub copied : Copied → TableMemory → WithPlace CopyResult
 copied a memory = record { result = record { number = a .number; taken = a .taken; revision = a .revision; memory = memory }; place = a .place }
 
+-- a number alone
+abbrev pub bareCopy : (number : ℕ) → Copied
+bareCopy number = record { number = number; revision = 0; taken = 0; place = 0 }
+
 -- "A refusal .. reports 0 bytes taken"; "0 is reported in every other case"
 abbrev pub refusedCopy : Fault → Copied
 refusedCopy fault = record { number = fault .number; revision = 0; taken = 0; place = reportedPlace fault }

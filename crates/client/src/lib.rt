@@ -21,6 +21,7 @@ ghost use mathlib.Core.Path.{_≡_};
 ghost use mathlib.Core.Bool.{true};
 ghost use Prim.Native.Nat.{ℕ, _+_, _≤_};
 ghost use lib.ListN.{length};
+ghost use Rattle.field.specs.Answer.{unsound};
 ghost use Rattle.answer.specs.Answers.{bareAnswer};
 ghost use Rattle.value.specs.Value.{maxValueSize};
 ghost use Rattle.message.specs.Layout.{maxNameLength};
@@ -31,7 +32,7 @@ ghost use Rattle.soundness.specs.Sound.{soundTable};
 ghost use Rattle.protocol.specs.Copy.{judgeCopyAssignment, judgeCopyUpdate, judgeUnsupported, judgeCopy};
 ghost use Rattle.protocol.specs.Copy.{copyFreshStart};
 ghost use Rattle.protocol.specs.Place.{executeCopyWithPlace, copyWithPlace};
-ghost use Rattle.client.specs.Lent.{copied, refusedCopy, ignoredCopy, storedCopy, copyVerdictOf, Copyable, DecidesCopy};
+ghost use Rattle.client.specs.Lent.{copied, bareCopy, refusedCopy, ignoredCopy, storedCopy, copyVerdictOf, Copyable, DecidesCopy};
 
 // What reading a message into the copy answers: the number, the revision of 0x02, bytes taken, and the place of the field that failed.
 #[repr(C)]
@@ -42,13 +43,19 @@ pub struct Copied {
     pub place: usize,
 }
 
-// What reading a message answers on less memory than a copy has.
-pub const TOO_SMALL: Copied = Copied {
+// What reading a message answers on memory that is unsound or too small.
+pub const ON_UNSOUND: Copied = Copied {
     number: UNSOUND,
     revision: 0,
     taken: 0,
     place: 0,
 };
+
+fn unsound() -> Copied
+    ensures { λ r. ⌜ r ≡ bareCopy unsound ⌝ }
+{
+    ON_UNSOUND
+}
 
 fn refused(fault: Fault) -> Copied
     ensures { λ r. ⌜ r ≡ refusedCopy fault ⌝ }
@@ -307,10 +314,10 @@ pub fn copy_fresh(heads: &[u16], bytes: &[u8], count: &mut u16) -> Answer
         ≡ copyFreshStart maxEntries (lent (heads .entry) (bytes .entry) (now (count .entry))) .memory ⌝ }
 {
     if heads.len() < table::HEADS_SIZE {
-        return answer::bare(UNSOUND);
+        return answer::unsound();
     }
     if bytes.len() < table::BYTES_SIZE {
-        return answer::bare(UNSOUND);
+        return answer::unsound();
     }
     *count = 0;
     answer::bare(field::DONE)
@@ -323,7 +330,7 @@ pub fn copy_receive(heads: &mut [u16], bytes: &mut [u8], count: &mut u16, m: &[u
         ≡ copyWithPlace maxEntries (lent (heads .entry) (bytes .entry) (now (count .entry))) (now (m .entry)) ⌝ }
 {
     if !soundness::table_is_sound(heads, bytes, *count) {
-        return refused(fault_at(UNSOUND, 0));
+        return unsound();
     }
     let decision = judge_copy(heads, bytes, *count, m);
     perform(heads, bytes, count, m, decision)

@@ -23,8 +23,8 @@ pub struct ScalarAnswer {
     pub value: f64,
 }
 
-// What reading answers on less memory than a table has.
-pub const TOO_SMALL: ScalarAnswer = ScalarAnswer {
+// What reading answers on memory that is unsound or too small.
+pub const ON_UNSOUND: ScalarAnswer = ScalarAnswer {
     number: UNSOUND,
     found: 0,
     flag: false,

@@ -26,7 +26,7 @@ pub extern "C" fn nt2_fresh(
         (lent (heads .entry) (bytes .entry) (count .exit) (marks .exit)) ⌝ }
 {
     if heads.len() < table::MAX_ENTRIES {
-        return answer::TOO_SMALL;
+        return answer::ON_UNSOUND;
     }
     let mut flat = [0u16; table::HEADS_SIZE];
     heads::load(heads, &mut flat);
@@ -47,7 +47,7 @@ pub extern "C" fn nt2_open(
         (record { call = openConnection connection; output = [] }) ⌝ }
 {
     if heads.len() < table::MAX_ENTRIES {
-        return answer::TOO_SMALL;
+        return answer::ON_UNSOUND;
     }
     let mut flat = [0u16; table::HEADS_SIZE];
     heads::load(heads, &mut flat);
@@ -68,7 +68,7 @@ pub extern "C" fn nt2_leave(
         (record { call = leave connection; output = [] }) ⌝ }
 {
     if heads.len() < table::MAX_ENTRIES {
-        return answer::TOO_SMALL;
+        return answer::ON_UNSOUND;
     }
     let mut flat = [0u16; table::HEADS_SIZE];
     heads::load(heads, &mut flat);
@@ -91,7 +91,7 @@ pub extern "C" fn nt2_receive(
         (lentCall (clientMessage connection (now (message .entry))) (out .entry)) ⌝ }
 {
     if heads.len() < table::MAX_ENTRIES {
-        return answer::TOO_SMALL;
+        return answer::ON_UNSOUND;
     }
     let mut flat = [0u16; table::HEADS_SIZE];
     heads::load(heads, &mut flat);
@@ -117,7 +117,7 @@ pub extern "C" fn nt2_create(
         (lentCall (localCreate (now (name .entry)) «type_code» (now (value .entry))) (out .entry)) ⌝ }
 {
     if heads.len() < table::MAX_ENTRIES {
-        return answer::TOO_SMALL;
+        return answer::ON_UNSOUND;
     }
     let mut flat = [0u16; table::HEADS_SIZE];
     heads::load(heads, &mut flat);
@@ -142,7 +142,7 @@ pub extern "C" fn nt2_write(
         (lentCall (localWrite id (now (value .entry))) (out .entry)) ⌝ }
 {
     if heads.len() < table::MAX_ENTRIES {
-        return answer::TOO_SMALL;
+        return answer::ON_UNSOUND;
     }
     let mut flat = [0u16; table::HEADS_SIZE];
     heads::load(heads, &mut flat);
@@ -158,7 +158,7 @@ pub extern "C" fn nt2_read(heads: &[Head], bytes: &[u8], count: &mut u16, id: u1
         (lentTable (heads .entry) (bytes .entry) (count .exit)) ⌝ }
 {
     if heads.len() < table::MAX_ENTRIES {
-        return flat::TOO_SMALL;
+        return flat::ON_UNSOUND;
     }
     let mut flat = [0u16; table::HEADS_SIZE];
     heads::load(heads, &mut flat);
@@ -172,7 +172,7 @@ pub extern "C" fn nt2_copy_fresh(heads: &[Head], bytes: &[u8], count: &mut u16) 
         (lentTable (heads .entry) (bytes .entry) (count .exit)) ⌝ }
 {
     if heads.len() < table::MAX_ENTRIES {
-        return answer::TOO_SMALL;
+        return answer::ON_UNSOUND;
     }
     let mut flat = [0u16; table::HEADS_SIZE];
     heads::load(heads, &mut flat);
@@ -191,7 +191,7 @@ pub extern "C" fn nt2_copy_receive(
         ≡ headsCopyMessage (lentTable (heads .entry) (bytes .entry) (count .entry)) (now (message .entry)) ⌝ }
 {
     if heads.len() < table::MAX_ENTRIES {
-        return client::TOO_SMALL;
+        return client::ON_UNSOUND;
     }
     let mut flat = [0u16; table::HEADS_SIZE];
     heads::load(heads, &mut flat);

@@ -53,13 +53,13 @@ pub fn fresh(heads: &[u16], bytes: &[u8], count: &mut u16, marks: &mut [u8]) -> 
         ≡ freshStart maxEntries (lentServer (heads .entry) (bytes .entry) (now (count .entry)) (marks .entry)) .memory ⌝ }
 {
     if heads.len() < table::HEADS_SIZE {
-        return answer::bare(UNSOUND);
+        return answer::unsound();
     }
     if bytes.len() < table::BYTES_SIZE {
-        return answer::bare(UNSOUND);
+        return answer::unsound();
     }
     if marks.len() < soundness::CONNECTIONS {
-        return answer::bare(UNSOUND);
+        return answer::unsound();
     }
     close_all(marks);
     *count = 0;
@@ -74,7 +74,7 @@ pub fn open(heads: &[u16], bytes: &[u8], count: u16, marks: &mut [u8], c: usize)
         (record { call = openConnection c; output = [] }) ⌝ }
 {
     if !is_sound(heads, bytes, count, marks) {
-        return answer::bare(UNSOUND);
+        return answer::unsound();
     }
     let decision = judge::judge_open(marks, c);
     perform::perform_mark(marks, c, decision)
@@ -94,7 +94,7 @@ pub fn leave_connection(
         (record { call = leave c; output = [] }) ⌝ }
 {
     if !is_sound(heads, bytes, count, marks) {
-        return answer::bare(UNSOUND);
+        return answer::unsound();
     }
     let decision = judge::judge_leave(marks, c);
     perform::perform_mark(marks, c, decision)
@@ -118,7 +118,7 @@ pub fn receive(
         (lentCall (clientMessage c (now (m .entry))) (out .entry)) ⌝ }
 {
     if !is_sound(heads, bytes, *count, marks) {
-        return answer::bare(UNSOUND);
+        return answer::unsound();
     }
     let decision = judge::judge_client_message(heads, bytes, *count, marks, c, m);
     perform::perform(heads, bytes, count, marks, c, m, decision, out)
@@ -141,7 +141,7 @@ pub fn create(
         (lentCall (localCreate (now (name .entry)) «type_code» (now (value .entry))) (out .entry)) ⌝ }
 {
     if !is_sound(heads, bytes, *count, marks) {
-        return answer::bare(UNSOUND);
+        return answer::unsound();
     }
     match judge::judge_create(heads, bytes, *count, name, type_code, value) {
         CreateDecision::Refuse(fault) => answer::refused(fault),
@@ -178,7 +178,7 @@ pub fn write(
         (lentCall (localWrite id (now (value .entry))) (out .entry)) ⌝ }
 {
     if !is_sound(heads, bytes, count, marks) {
-        return answer::bare(UNSOUND);
+        return answer::unsound();
     }
     match judge::judge_write(heads, bytes, count, id, value) {
         WriteDecision::Refuse(fault) => answer::refused(fault),

@@ -10,40 +10,40 @@ use borrow.Author.Needs.{needs}
 use Rattle.client.proofs.copy_fresh.Statement.{statement}
 use Rattle.client.proofs.copy_fresh.Tie as tie
 
-bare-requires : tie.Need-bare-requires
-bare-requires c κs = search needs
+unsound-requires : tie.Need-unsound-requires
+unsound-requires c κs = search needs
 
 returns : tie.Need-returns
 unfolding copyFreshStart largeEnough pick
-returns c = rw (c .bare .ensures, lt-leb _ _ (c .before .if1 .taken)) (refl, refl)
+returns c = rw (c .unsound .ensures, lt-leb _ _ (c .before .if1 .taken)) (refl, refl)
 
-bare-requires-2 : tie.Need-bare-requires-2
-bare-requires-2 c κs = search needs
+unsound-requires-2 : tie.Need-unsound-requires-2
+unsound-requires-2 c κs = search needs
 
 returns-2 : tie.Need-returns-2
 unfolding copyFreshStart largeEnough pick
 returns-2 c =
     let t = c .before in
     let bytes = t .before .before .before .before .args .bytes .now in
-    rw (c .bare2 .ensures, le-leb _ _ (t .before .if1 .left), lt-leb 20480 (length bytes) (omega (arith, t .if2 .taken))) (refl, refl)
+    rw (c .unsound2 .ensures, le-leb _ _ (t .before .if1 .left), lt-leb 20480 (length bytes) (omega (arith, t .if2 .taken))) (refl, refl)
 
-bare-requires-3 : tie.Need-bare-requires-3
-bare-requires-3 c κs = search needs
+bare-requires : tie.Need-bare-requires
+bare-requires c κs = search needs
 
 returns-3 : tie.Need-returns-3
 unfolding copyFreshStart largeEnough pick
 returns-3 c =
     let t = c .before in
     let bytes = t .before .before .before .before .args .bytes .now in
-    rw (c .bare3 .ensures, le-leb _ _ (t .before .if1 .left), le-leb 20480 (length bytes) (omega (arith, t .if2 .left))) (refl, refl)
+    rw (c .bare .ensures, le-leb _ _ (t .before .if1 .left), le-leb 20480 (length bytes) (omega (arith, t .if2 .left))) (refl, refl)
 
 pub copy-fresh-spec : {M : Type 1} → statement M
 copy-fresh-spec =
     tie.close
     (tie.spec
-    bare-requires
+    unsound-requires
     returns
-    bare-requires-2
+    unsound-requires-2
     returns-2
-    bare-requires-3
+    bare-requires
     returns-3)

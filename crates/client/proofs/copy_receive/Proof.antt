@@ -2,9 +2,7 @@
 use mathlib.Core.Path.{_≡_, sym, _∙_}
 use mathlib.Core.Bool.{true}
 use borrow.Author.Tests.{not-true, not-false}
-use Rattle.field.specs.Answer.{unsound}
 use Rattle.field.specs.Choice.{pick}
-use Rattle.field.proofs.PlaceLaws.{no-place}
 use Rattle.table.specs.Table.{TableMemory, tableMemory, maxEntries}
 use Rattle.soundness.specs.Sound.{soundTable}
 use Rattle.protocol.specs.Copy.{executeCopy, copyMessage}
@@ -26,11 +24,8 @@ sound c = sym (c .before .table-is-sound .ensures) ∙ not-false (c .before .tab
 table-is-sound-requires : tie.Need-table-is-sound-requires
 table-is-sound-requires c κs = search needs
 
-fault-at-requires : tie.Need-fault-at-requires
-fault-at-requires c κs = search needs
-
-refused-requires : tie.Need-refused-requires
-refused-requires c κs = search needs
+unsound-requires : tie.Need-unsound-requires
+unsound-requires c κs = search needs
 
 same-length : tie.Need-same-length
 same-length c = search needs
@@ -41,8 +36,8 @@ same-length-2 c = search needs
 returns : tie.Need-returns
 unfolding copyMessage copyPlace executeCopy pick
 returns c =
-    let t = c .before .before in
-    rw (c .refused .ensures, c .before .fault-at .ensures, no-place unsound, ← (t .before .table-is-sound .ensures), not-true (t .before .table-is-sound .result) (t .if1 .taken))
+    let t = c .before in
+    rw (c .unsound .ensures, ← (t .before .table-is-sound .ensures), not-true (t .before .table-is-sound .result) (t .if1 .taken))
 
 judge-copy-requires : tie.Need-judge-copy-requires
 unfolding to-start
@@ -72,8 +67,7 @@ copy-receive-spec =
     tie.close
     (tie.spec
     table-is-sound-requires
-    fault-at-requires
-    refused-requires
+    unsound-requires
     same-length
     same-length-2
     returns

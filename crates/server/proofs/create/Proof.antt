@@ -41,8 +41,8 @@ decided c d e =
 is-sound-requires : tie.Need-is-sound-requires
 is-sound-requires c κs = search needs
 
-bare-requires : tie.Need-bare-requires
-bare-requires c κs = search needs
+unsound-requires : tie.Need-unsound-requires
+unsound-requires c κs = search needs
 
 same-length : tie.Need-same-length
 same-length c = search needs
@@ -52,7 +52,7 @@ same-length-2 c = search needs
 
 returns : tie.Need-returns
 unfolding callStep callPlace pick
-returns c = rw (c .bare .ensures, ← (c .before .before .is-sound .ensures), not-true (c .before .before .is-sound .result) (c .before .if1 .taken))
+returns c = rw (c .unsound .ensures, ← (c .before .before .is-sound .ensures), not-true (c .before .before .is-sound .result) (c .before .if1 .taken))
 
 judge-create-requires : tie.Need-judge-create-requires
 unfolding to-start
@@ -118,7 +118,7 @@ create-spec =
     tie.close
     (tie.spec
     is-sound-requires
-    bare-requires
+    unsound-requires
     same-length
     same-length-2
     returns

@@ -8,34 +8,34 @@ use borrow.Author.Needs.{needs}
 use Rattle.server.proofs.fresh.Statement.{statement}
 use Rattle.server.proofs.fresh.Tie as tie
 
-bare-requires : tie.Need-bare-requires
-bare-requires c κs = search needs
+unsound-requires : tie.Need-unsound-requires
+unsound-requires c κs = search needs
 
 returns : tie.Need-returns
 unfolding freshStart largeEnough pick
-returns c = rw (c .bare .ensures, lt-leb _ _ (c .before .if1 .taken)) (refl, refl)
+returns c = rw (c .unsound .ensures, lt-leb _ _ (c .before .if1 .taken)) (refl, refl)
 
-bare-requires-2 : tie.Need-bare-requires-2
-bare-requires-2 c κs = search needs
+unsound-requires-2 : tie.Need-unsound-requires-2
+unsound-requires-2 c κs = search needs
 
 returns-2 : tie.Need-returns-2
 unfolding freshStart largeEnough pick
-returns-2 c = rw (c .bare2 .ensures, le-leb _ _ (c .before .before .if1 .left), lt-leb _ _ (c .before .if2 .taken)) (refl, refl)
+returns-2 c = rw (c .unsound2 .ensures, le-leb _ _ (c .before .before .if1 .left), lt-leb _ _ (c .before .if2 .taken)) (refl, refl)
 
-bare-requires-3 : tie.Need-bare-requires-3
-bare-requires-3 c κs = search needs
+unsound-requires-3 : tie.Need-unsound-requires-3
+unsound-requires-3 c κs = search needs
 
 returns-3 : tie.Need-returns-3
 unfolding freshStart largeEnough pick
 returns-3 c =
     let t = c .before in
-    rw (c .bare3 .ensures, le-leb _ _ (t .before .before .if1 .left), le-leb _ _ (t .before .if2 .left), lt-leb _ _ (t .if3 .taken)) (refl, refl)
+    rw (c .unsound3 .ensures, le-leb _ _ (t .before .before .if1 .left), le-leb _ _ (t .before .if2 .left), lt-leb _ _ (t .if3 .taken)) (refl, refl)
 
 close-all-requires : tie.Need-close-all-requires
 close-all-requires c κs = search needs
 
-bare-requires-4 : tie.Need-bare-requires-4
-bare-requires-4 c κs = search needs
+bare-requires : tie.Need-bare-requires
+bare-requires c κs = search needs
 
 same-length : tie.Need-same-length
 same-length c = search needs
@@ -45,19 +45,19 @@ unfolding freshStart largeEnough pick
 returns-4 c =
     let w = c .before .before .before in
     let e = w .before .before in
-    rw (c .bare4 .ensures, w .close-all .ensures, le-leb _ _ (e .before .before .if1 .left), le-leb _ _ (e .before .if2 .left), le-leb _ _ (e .if3 .left)) (refl, refl)
+    rw (c .bare .ensures, w .close-all .ensures, le-leb _ _ (e .before .before .if1 .left), le-leb _ _ (e .before .if2 .left), le-leb _ _ (e .if3 .left)) (refl, refl)
 
 pub fresh-spec : {M : Type 1} → statement M
 fresh-spec =
     tie.close
     (tie.spec
-    bare-requires
+    unsound-requires
     returns
-    bare-requires-2
+    unsound-requires-2
     returns-2
-    bare-requires-3
+    unsound-requires-3
     returns-3
     close-all-requires
-    bare-requires-4
+    bare-requires
     same-length
     returns-4)

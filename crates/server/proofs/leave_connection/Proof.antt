@@ -23,15 +23,15 @@ sound c = sound-call _ _ (c .before .is-sound .result) (c .before .is-sound .ens
 is-sound-requires : tie.Need-is-sound-requires
 is-sound-requires c κs = search needs
 
-bare-requires : tie.Need-bare-requires
-bare-requires c κs = search needs
+unsound-requires : tie.Need-unsound-requires
+unsound-requires c κs = search needs
 
 same-length : tie.Need-same-length
 same-length c = search needs
 
 returns : tie.Need-returns
 unfolding callStep callPlace pick
-returns c = rw (c .bare .ensures, ← (c .before .before .is-sound .ensures), not-true (c .before .before .is-sound .result) (c .before .if1 .taken))
+returns c = rw (c .unsound .ensures, ← (c .before .before .is-sound .ensures), not-true (c .before .before .is-sound .result) (c .before .if1 .taken))
 
 judge-leave-requires : tie.Need-judge-leave-requires
 unfolding to-start
@@ -61,7 +61,7 @@ leave-connection-spec =
     tie.close
     (tie.spec
     is-sound-requires
-    bare-requires
+    unsound-requires
     same-length
     returns
     judge-leave-requires

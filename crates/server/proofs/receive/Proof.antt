@@ -22,8 +22,8 @@ sound c = sound-call _ _ (c .before .is-sound .result) (c .before .is-sound .ens
 is-sound-requires : tie.Need-is-sound-requires
 is-sound-requires c κs = search needs
 
-bare-requires : tie.Need-bare-requires
-bare-requires c κs = search needs
+unsound-requires : tie.Need-unsound-requires
+unsound-requires c κs = search needs
 
 same-length : tie.Need-same-length
 same-length c = search needs
@@ -36,7 +36,7 @@ same-length-3 c = search needs
 
 returns : tie.Need-returns
 unfolding callStep callPlace pick
-returns c = rw (c .bare .ensures, ← (c .before .before .is-sound .ensures), not-true (c .before .before .is-sound .result) (c .before .if1 .taken))
+returns c = rw (c .unsound .ensures, ← (c .before .before .is-sound .ensures), not-true (c .before .before .is-sound .result) (c .before .if1 .taken))
 
 judge-client-message-requires : tie.Need-judge-client-message-requires
 unfolding to-start
@@ -74,7 +74,7 @@ receive-spec =
     tie.close
     (tie.spec
     is-sound-requires
-    bare-requires
+    unsound-requires
     same-length
     same-length-2
     same-length-3
