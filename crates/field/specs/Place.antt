@@ -1,10 +1,15 @@
 -- "Say where the fault is": an answer tells, beside what it told before, the place of the field that failed.
-use Prim.Native.Nat.{ℕ}
+use Prim.Native.Nat.{ℕ, _≤_}
 use mathlib.Core.Bool.{_&&_}
 use lib.Dec.{leb}
 use Rattle.field.specs.Answer.{unknownType, tooLong}
 use Rattle.field.specs.Choice.{pick}
 use Rattle.field.specs.declared.Fault.{Fault}
+
+-- "with 7 to 10"
+pub record TellsPlace (number : ℕ) : Type 0 where
+  pub above : unknownType ≤ number
+  pub below : number ≤ tooLong
 
 -- "report, with 7 to 10, the place of the first byte of the field that failed"; "With other numbers .. it is 0."
 unfoldable pub reportedPlace : Fault → ℕ

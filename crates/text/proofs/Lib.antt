@@ -1,2 +1,3 @@
 pub mod Utf8Laws
 pub mod TextLaws
+pub mod FailsLaws

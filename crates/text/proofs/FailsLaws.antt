@@ -1,0 +1,46 @@
+-- What is true at the place that a text is refused with.
+use mathlib.Core.Path.{_≡_, sym}
+use mathlib.Core.Bool.{false, false≢true}
+use mathlib.Core.List.{List}
+use Prim.Native.Nat.{ℕ, zero, suc, _<_}
+use native.Mathlib.Omega.{arith}
+use lib.ListN.{length, take, drop}
+use borrow.Author.Tests.{leb-true, leb-false}
+use Rattle.field.specs.Octets.{decode16}
+use Rattle.field.specs.Place.{TellsPlace}
+use Rattle.field.specs.declared.Parsed.{Parsed}
+use Rattle.field.proofs.ChoiceLaws.{by-test}
+use Rattle.field.proofs.PlaceLaws.{Refuses, refuses-with, refused-with}
+use Rattle.text.specs.Utf8.{isUtf8, utf8From}
+use Rattle.text.specs.Text.{parseText}
+use Rattle.text.specs.Fails.{TextFailsAt, TextFails}
+
+pub text-refuses : (maxSize sizeSoFar : ℕ) (s : List ℕ) → Refuses (TextFailsAt maxSize sizeSoFar s) (parseText maxSize sizeSoFar s)
+unfolding parseText
+text-refuses maxSize sizeSoFar s =
+    by-test P _ _ _ (λ there. by-test P _ _ _ (λ _. by-test P _ _ _ (λ all. by-test P _ _ _ (λ _. Refuses.taken)
+    (λ u. refuses-with F 9 2 (TextFailsAt.not-text (leb-true _ _ all) u)))
+    (λ _. refuses-with F 1 2 TextFailsAt.not-whole))
+    (λ l. refuses-with F 10 0 (TextFailsAt.long-text (leb-true _ _ there) (leb-false _ _ l))))
+    (λ _. refuses-with F 1 0 TextFailsAt.not-whole)
+  where
+    F : ℕ → ℕ → Type 0
+    F = TextFailsAt maxSize sizeSoFar s
+
+    P : Parsed → Type 0
+    P = Refuses F
+
+pub text-fails : TextFails
+text-fails maxSize sizeSoFar s fault e = refused-with (TextFailsAt maxSize sizeSoFar s) fault (rw e at (text-refuses maxSize sizeSoFar s))
+
+-- a text that is not UTF-8 has a byte
+pub some-byte : (n : ℕ) (s : List ℕ) → isUtf8 (take n s) ≡ false → 0 < n
+unfolding isUtf8 utf8From
+some-byte zero s u = absurd (false≢true (sym u))
+some-byte (suc n) s u = omega arith
+
+-- so the place is that of a byte
+pub text-within : (maxSize sizeSoFar : ℕ) (s : List ℕ) (number place : ℕ) → TextFailsAt maxSize sizeSoFar s number place → TellsPlace number → place < length s
+text-within maxSize sizeSoFar s number place (TextFailsAt.long-text there l) tells = omega arith
+text-within maxSize sizeSoFar s number place (TextFailsAt.not-text all u) tells = omega (arith, some-byte (decode16 s) (drop 2 s) u)
+text-within maxSize sizeSoFar s number place TextFailsAt.not-whole tells = absurd (omega arith)

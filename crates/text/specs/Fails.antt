@@ -1,0 +1,26 @@
+-- "the place of the first byte of the field that failed: a text's bytes for 9, a prefix .. for 10". Proved in proofs/FailsLaws.antt.
+use Prim.Native.Nat.{ℕ, _+_, _≤_, _<_}
+use mathlib.Core.Bool.{false}
+use mathlib.Core.List.{List}
+use mathlib.Core.Path.{_≡_}
+use lib.ListN.{length, take, drop}
+use Rattle.field.specs.Answer.{incomplete, notUtf8, tooLong}
+use Rattle.field.specs.Octets.{decode16}
+use Rattle.field.specs.declared.Fault.{Fault}
+use Rattle.field.specs.declared.Parsed.the-variants.{Refused}
+use Rattle.text.specs.Utf8.{isUtf8}
+use Rattle.text.specs.Text.{prefixSize, parseText}
+
+-- the field at the place breaks the rule of the number, in a text that begins with its prefix
+pub data TextFailsAt (maxSize sizeSoFar : ℕ) (s : List ℕ) : (number place : ℕ) → Type 0 where
+  -- "a prefix .. for 10": it is there, and says too much
+  long-text : prefixSize ≤ length s → maxSize < sizeSoFar + (prefixSize + decode16 s) → TextFailsAt maxSize sizeSoFar s tooLong 0
+  -- "a text's bytes for 9": they are behind their prefix, all of them are there, and they are not UTF-8
+  not-text : prefixSize + decode16 s ≤ length s → isUtf8 (take (decode16 s) (drop prefixSize s)) ≡ false → TextFailsAt maxSize sizeSoFar s notUtf8 prefixSize
+  -- no place is told with 1
+  not-whole : {place : ℕ} → TextFailsAt maxSize sizeSoFar s incomplete place
+
+abbrev pub TextFails : Type 0
+TextFails =
+    (maxSize sizeSoFar : ℕ) (s : List ℕ) (fault : Fault) → parseText maxSize sizeSoFar s ≡ Refused fault
+    → TextFailsAt maxSize sizeSoFar s (fault .number) (fault .place)

@@ -1,0 +1,48 @@
+-- "The reading of a value shall report, with 7 to 10, the place of the first byte of the field that failed". Proved in proofs/FailsLaws.antt.
+use Prim.Native.Nat.{ℕ, suc, _+_, _*_, _≤_, _<_}
+use mathlib.Core.Bool.{false}
+use mathlib.Core.List.{List}
+use mathlib.Core.Path.{_≡_}
+use lib.ListN.{length, drop, getD}
+use Rattle.field.specs.Answer.{incomplete, unknownType, badBoolean, tooLong}
+use Rattle.field.specs.declared.Fault.{Fault}
+use Rattle.field.specs.declared.Parsed.the-variants.{Refused, Taken}
+use Rattle.text.specs.Fails.{TextFailsAt}
+use Rattle.value.specs.Value.{boolean, string, arrayOf, doubleArray, knownType, maxValueSize, booleanSize, trueByte, doubleSize, countSize, parseElement, parseValue, parseLone}
+
+-- "count (1) of elements and the elements in order": so many are left at a place of an array, and all before it are whole
+pub data ElementsLeft (element : ℕ) (s : List ℕ) : (left place : ℕ) → Type 0 where
+  behind-count : countSize ≤ length s → ElementsLeft element s (getD s 0 0) countSize
+  behind-element : {left place n : ℕ} → ElementsLeft element s (suc left) place → parseElement element place (drop place s) ≡ Taken n
+      → ElementsLeft element s left (place + n)
+
+-- an element of a value begins at a place; a lone Boolean, Double or String is its own
+pub data ElementAt (t : ℕ) (s : List ℕ) : (element place : ℕ) → Type 0 where
+  lone : t ≤ string → ElementAt t s t 0
+  listed : {element left place : ℕ} → t ≡ arrayOf + element → ElementsLeft element s (suc left) place → ElementAt t s element place
+
+-- the field at the place breaks the rule of the number
+pub data ValueFailsAt (t : ℕ) (s : List ℕ) : (number place : ℕ) → Type 0 where
+  -- "With .. a type given as a number, it is 0": no byte of a value is its type
+  unknown-type : knownType t ≡ false → ValueFailsAt t s unknownType 0
+  -- "the .. Boolean byte": it is there, and "not 0 or 1"
+  not-boolean : {place : ℕ} → ElementAt t s boolean place → place < length s → trueByte < getD s place 0 → ValueFailsAt t s badBoolean place
+  -- "a text's bytes for 9, a prefix .. for 10": the size so far is that of the bytes before the text
+  text : {start number place : ℕ} → ElementAt t s string start → TextFailsAt maxValueSize start (drop start s) number place → ValueFailsAt t s number (start + place)
+  -- a "count .. for 10": it is there, and says too much (of Booleans no byte does)
+  many-booleans : t ≡ arrayOf + boolean → countSize ≤ length s → maxValueSize < countSize + booleanSize * getD s 0 0 → ValueFailsAt t s tooLong 0
+  many-doubles : t ≡ doubleArray → countSize ≤ length s → maxValueSize < countSize + doubleSize * getD s 0 0 → ValueFailsAt t s tooLong 0
+  -- no place is told with 1
+  not-whole : {place : ℕ} → ValueFailsAt t s incomplete place
+
+abbrev pub ValueFails : Type 0
+ValueFails = (t : ℕ) (s : List ℕ) (fault : Fault) → parseValue t s ≡ Refused fault → ValueFailsAt t s (fault .number) (fault .place)
+
+-- the same of a value that is lent by itself
+pub data LoneFailsAt (t : ℕ) (s : List ℕ) : (number place : ℕ) → Type 0 where
+  in-value : {number place : ℕ} → ValueFailsAt t s number place → LoneFailsAt t s number place
+  -- "for bytes left over, the first of them"
+  left-over : {n : ℕ} → parseValue t s ≡ Taken n → n < length s → LoneFailsAt t s tooLong n
+
+abbrev pub LoneFails : Type 0
+LoneFails = (t : ℕ) (s : List ℕ) (fault : Fault) → parseLone t s ≡ Refused fault → LoneFailsAt t s (fault .number) (fault .place)
