@@ -5,3 +5,4 @@ pub mod RefusalLaws
 pub mod ReadBytesLaws
 pub mod ReadingLaws
 pub mod FirstLaws
+pub mod FailsLaws

@@ -2,3 +2,4 @@ pub mod Layout
 pub mod Reader
 pub mod Laws
 pub mod Lent
+pub mod Fails

@@ -1,11 +1,13 @@
 -- What is true at the place that a text is refused with.
 use mathlib.Core.Path.{_≡_, sym}
 use mathlib.Core.Bool.{false, false≢true}
+use mathlib.Core.Logic.{_≢_}
 use mathlib.Core.List.{List}
 use Prim.Native.Nat.{ℕ, zero, suc, _<_}
 use native.Mathlib.Omega.{arith}
 use lib.ListN.{length, take, drop}
 use borrow.Author.Tests.{leb-true, leb-false}
+use Rattle.field.specs.Answer.{unknownType}
 use Rattle.field.specs.Octets.{decode16}
 use Rattle.field.specs.Place.{TellsPlace}
 use Rattle.field.specs.declared.Parsed.{Parsed}
@@ -32,6 +34,12 @@ text-refuses maxSize sizeSoFar s =
 
 pub text-fails : TextFails
 text-fails maxSize sizeSoFar s fault e = refused-with (TextFailsAt maxSize sizeSoFar s) fault (rw e at (text-refuses maxSize sizeSoFar s))
+
+-- a text has no type
+pub text-number : (maxSize sizeSoFar : ℕ) (s : List ℕ) (number place : ℕ) → TextFailsAt maxSize sizeSoFar s number place → number ≢ unknownType
+text-number maxSize sizeSoFar s number place (TextFailsAt.long-text there l) e = omega arith
+text-number maxSize sizeSoFar s number place (TextFailsAt.not-text all u) e = omega arith
+text-number maxSize sizeSoFar s number place TextFailsAt.not-whole e = omega arith
 
 -- a text that is not UTF-8 has a byte
 pub some-byte : (n : ℕ) (s : List ℕ) → isUtf8 (take n s) ≡ false → 0 < n

@@ -1,6 +1,7 @@
 -- What is true at the place that a value is refused with.
 use mathlib.Core.Path.{_≡_, refl, sym, _∙_}
 use mathlib.Core.Bool.{Bool, true, false, false≢true}
+use mathlib.Core.Logic.{_≢_}
 use mathlib.Core.List.{List}
 use Prim.Native.Nat.{ℕ, zero, suc, _+_, _-_, _*_, _≤_, _<_}
 use native.Mathlib.Omega.{arith}
@@ -17,7 +18,7 @@ use Rattle.field.specs.declared.Parsed.the-variants.{Refused, Taken}
 use Rattle.field.proofs.ChoiceLaws.{by-test}
 use Rattle.field.proofs.PlaceLaws.{Refuses, refuses-with, refused-with, refuses-map}
 use Rattle.text.specs.Text.{parseText}
-use Rattle.text.proofs.FailsLaws.{text-refuses, text-within}
+use Rattle.text.proofs.FailsLaws.{text-refuses, text-number, text-within}
 use Rattle.value.specs.Value.{boolean, string, arrayOf, knownType, maxValueSize, countFits, parseBoolean, parseDouble, parseElement, elements, parseArray, parseValue, parseLone}
 use Rattle.value.specs.Fails.{ElementsLeft, ElementAt, ValueFailsAt, ValueFails, LoneFailsAt, LoneFails}
 use Rattle.value.proofs.ValueLaws.{known-array, known-small, value-fits}
@@ -33,14 +34,15 @@ module _ (t : ℕ) (s : List ℕ) where
   unfolding From parseBoolean
   boolean-refuses start e =
       by-test P _ _ _ (λ there. by-test P _ _ _ (λ _. Refuses.taken)
-      (λ b.
-      let some : 1 ≤ length (drop start s) = leb-true _ _ there in
-      refuses-with (From start) 8 0
-      (rw here (ValueFailsAt.not-boolean e (omega (arith, length-drop start s)) (rw (getD-drop start s 0 0, here) at (leb-false (getD (drop start s) 0 0) 1 b))))))
+      (λ b. refuses-with (From start) 8 0
+      (rw here (ValueFailsAt.not-boolean e (some-byte (leb-true _ _ there)) (rw (getD-drop start s 0 0, here) at (leb-false (getD (drop start s) 0 0) 1 b))))))
       (λ _. refuses-with (From start) 1 0 ValueFailsAt.not-whole)
     where
       here : start + 0 ≡ start
       here = omega arith
+
+      some-byte : 1 ≤ length (drop start s) → start < length s
+      some-byte h = omega (arith, length-drop start s)
 
       P : Parsed → Type 0
       P = Refuses (From start)
@@ -136,7 +138,17 @@ lone-refuses t s = go (parseValue t s) refl (value-refuses t s)
 pub lone-fails : LoneFails
 lone-fails t s fault e = refused-with (LoneFailsAt t s) fault (rw e at (lone-refuses t s))
 
--- ---- the place is that of a byte, where the type is known
+-- ---- where the type is known
+
+pub value-of-known : (t : ℕ) (s : List ℕ) (number place : ℕ) → knownType t ≡ true → ValueFailsAt t s number place → number ≢ 7
+value-of-known t s number place known (ValueFailsAt.unknown-type k) e = false≢true (sym k ∙ known)
+value-of-known t s number place known (ValueFailsAt.not-boolean at there b) e = omega arith
+value-of-known t s number place known (ValueFailsAt.text at f) e = text-number _ _ _ _ _ f e
+value-of-known t s number place known (ValueFailsAt.many-booleans at there l) e = omega arith
+value-of-known t s number place known (ValueFailsAt.many-doubles at there l) e = omega arith
+value-of-known t s number place known ValueFailsAt.not-whole e = omega arith
+
+-- the place is that of a byte
 
 pub value-within : (t : ℕ) (s : List ℕ) (number place : ℕ) → knownType t ≡ true → ValueFailsAt t s number place → TellsPlace number → place < length s
 value-within t s number place known (ValueFailsAt.unknown-type k) tells = absurd (false≢true (sym k ∙ known))

@@ -10,7 +10,7 @@ use lib.ListN.{length, take, drop, getD, length-drop}
 use lib.Seq.{take-length, take-take, take-append-seam, length-take-le}
 use lib.Dec.{leb, eqb}
 use borrow.Author.Tests.{leb-true, le-leb, lt-leb, eqb-true, eq-eqb}
-use Rattle.field.specs.Answer.{tooLong}
+use Rattle.field.specs.Answer.{unknownType, tooLong}
 use Rattle.field.specs.Choice.{pick, demand}
 use Rattle.field.specs.Field.{faultAt, faultOf, andThen}
 use Rattle.field.specs.declared.Fault.{Fault}
@@ -72,6 +72,15 @@ value-known t s n e = known (Taken n) (rw e at of-known) refl
     known : (r : Parsed) → TakenOf t r → r ≡ Taken n → knownType t ≡ true
     known (Refused fault) f q = let z : _≡_ {A = ℕ} 0 1 = cc in absurd (omega arith)
     known (Taken m) (TakenOf.taken k) q = k
+
+-- a type that is not known is refused, whatever the bytes are
+pub value-unknown : (t : ℕ) (s : List ℕ) → knownType t ≡ false → parseValue t s ≡ Refused (faultAt unknownType 0)
+unfolding parseValue pick
+value-unknown t s k = go (leb t 2) refl
+  where
+    go : (b : Bool) → leb t 2 ≡ b → parseValue t s ≡ Refused (faultAt unknownType 0)
+    go true l = absurd (false≢true (sym k ∙ element-known t l))
+    go false l = rw (l, k)
 
 -- ---- an array
 

@@ -1,0 +1,207 @@
+-- What is true at the place that a message is refused with.
+use mathlib.Core.Path.{_≡_, refl, sym, _∙_}
+use mathlib.Core.Bool.{Bool, true, false, false≢true}
+use mathlib.Core.Logic.{_≢_}
+use mathlib.Core.List.{List}
+use Prim.Native.Nat.{ℕ, _+_, _-_, _≤_, _<_}
+use native.Mathlib.Omega.{arith}
+use lib.ListN.{length, take, drop, getD, length-drop}
+use lib.Seq.{drop-drop}
+use borrow.Author.Tests.{leb-true, eqb-true, ne-eqb}
+use Rattle.field.specs.Answer.{unknownType}
+use Rattle.field.specs.Choice.{pick}
+use Rattle.field.specs.Octets.{decode16}
+use Rattle.field.specs.Field.{faultAt, movedBy, andThen}
+use Rattle.field.specs.Place.{TellsPlace, Told}
+use Rattle.field.specs.declared.Fault.{Fault}
+use Rattle.field.specs.declared.Parsed.{Parsed}
+use Rattle.field.specs.declared.Parsed.the-variants.{Refused, Taken}
+use Rattle.field.proofs.ChoiceLaws.{by-test}
+use Rattle.field.proofs.PlaceLaws.{told, untold, Refuses}
+use Rattle.text.specs.Utf8.{isUtf8}
+use Rattle.text.specs.Text.{parseText}
+use Rattle.text.specs.Fails.{TextFailsAt}
+use Rattle.text.proofs.TextLaws.{TextIs, text-is}
+use Rattle.text.proofs.FailsLaws.{text-refuses, text-within}
+use Rattle.value.specs.Value.{knownType, parseValue}
+use Rattle.value.specs.Fails.{ValueFailsAt}
+use Rattle.value.proofs.ValueLaws.{value-unknown}
+use Rattle.value.proofs.FailsLaws.{value-refuses, value-of-known, value-within}
+use Rattle.reader.specs.Reader.{parseTextAt, parseValueAt}
+use Rattle.message.specs.Layout.{assignmentKind, updateKind}
+use Rattle.message.specs.Reader.{idAllowed, parseBehindId, parseAfterName, parseAssignment, parseBehindUpdateId, parseUpdate, parseRevision, ofAssignment, typeGiven, ofUpdate, parseByKind, parseMessage, numberOf, placeOf}
+use Rattle.message.specs.Fails.{nameLengthIn, typeStart, valueStart, updateIdIn, NameStands, AssignmentFailsAt, AssignmentFails, UpdateFailsAt, UpdateFails, MessageFailsAt, PlaceInMessage, ReadingFailsAt, ReadingTells}
+use Rattle.message.specs.declared.AllowedId.the-variants.{Any}
+use Rattle.message.specs.declared.AssignmentRead.{AssignmentRead}
+use Rattle.message.specs.declared.AssignmentRead.the-variants as A
+use Rattle.message.specs.declared.UpdateRead.{UpdateRead}
+use Rattle.message.specs.declared.UpdateRead.the-variants as U
+use Rattle.message.specs.declared.Decoded.{Decoded}
+use Rattle.message.specs.declared.Decoded.the-variants as D
+
+-- ---- an assignment
+
+pub data AssignmentRefuses (m : List ℕ) : AssignmentRead → Type 0 where
+  refused : {fault : Fault} → AssignmentFailsAt m (fault .number) (fault .place) → AssignmentRefuses m (A.Refused fault)
+  taken : {n t id q v : ℕ} → AssignmentRefuses m (A.Assignment n t id q v)
+
+module _ (allowed : ℕ → Bool) (m : List ℕ) where
+  P : AssignmentRead → Type 0
+  P = AssignmentRefuses m
+
+  at : (number place : ℕ) → AssignmentFailsAt m number place → P (A.Refused (faultAt number place))
+  unfolding P
+  at number place h = AssignmentRefuses.refused h
+
+  value-part : (id q : ℕ) → NameStands m → knownType (getD m (typeStart m) 0) ≡ true → typeStart m + 5 ≤ length m
+      → P (andThen A.Refused (parseValueAt (getD m (typeStart m) 0) (typeStart m + 5) m) (λ v. A.Assignment (nameLengthIn m) (getD m (typeStart m) 0) id q v))
+  unfolding P parseValueAt
+  value-part id q name known there =
+      let start : typeStart m + 5 ≡ valueStart m = omega arith in
+      rw start (go _ (value-refuses (getD m (typeStart m) 0) (drop (valueStart m) m)))
+    where
+      go : (r : Parsed) → Refuses (ValueFailsAt (getD m (typeStart m) 0) (drop (valueStart m) m)) r
+          → P (andThen A.Refused (movedBy (valueStart m) r) (λ v. A.Assignment (nameLengthIn m) (getD m (typeStart m) 0) id q v))
+      go (Refused fault) (Refuses.refused h) = AssignmentRefuses.refused (AssignmentFailsAt.value name known (omega arith) h)
+      go (Taken v) h = AssignmentRefuses.taken
+
+  after-name : NameStands m → P (parseAfterName allowed (typeStart m) m)
+  unfolding parseAfterName parseBehindId
+  after-name name =
+      let n-is : typeStart m - 3 ≡ nameLengthIn m = omega arith in
+      rw n-is
+      (by-test P _ _ _ (λ there.
+      by-test P _ _ _ (λ known.
+      by-test P _ _ _ (λ _.
+      by-test P _ _ _ (λ _.
+      by-test P _ _ _ (λ l. value-part _ _ name known (leb-true _ _ l))
+      (λ _. at 1 (typeStart m + 3) (AssignmentFailsAt.elsewhere (omega arith)))) (λ _. at 5 (typeStart m + 1) (AssignmentFailsAt.elsewhere (omega arith))))
+      (λ _. at 1 (typeStart m + 1) (AssignmentFailsAt.elsewhere (omega arith))))
+      (λ k. at 7 (typeStart m) (AssignmentFailsAt.type name (omega (arith, leb-true (typeStart m + 1) (length m) there)) k)))
+      (λ _. at 1 (typeStart m) (AssignmentFailsAt.elsewhere (omega arith))))
+
+  pub assignment-refuses : AssignmentRefuses m (parseAssignment allowed m)
+  unfolding P parseAssignment parseTextAt
+  assignment-refuses = go (parseText 66 0 (drop 1 m)) (text-is 66 0 (drop 1 m)) (text-refuses 66 0 (drop 1 m))
+    where
+      go : (r : Parsed) → TextIs 66 0 (drop 1 m) r → Refuses (TextFailsAt 66 0 (drop 1 m)) r
+          → AssignmentRefuses m (andThen A.Refused (movedBy 1 r) (λ size. parseAfterName allowed (1 + size) m))
+      go (Refused fault) f (Refuses.refused h) = AssignmentRefuses.refused (AssignmentFailsAt.name h)
+      go (Taken k) (TextIs.taken e l h u f) g =
+          let place : 1 + k ≡ typeStart m = omega arith in
+          let text : isUtf8 (take (nameLengthIn m) (drop 3 m)) ≡ true = rw (drop-drop 2 1 m) at u in
+          rw place
+          (after-name (record { there = omega (arith, length-drop 1 m); fits = omega arith; text = text }))
+
+pub assignment-fails : AssignmentFails
+assignment-fails allowed m fault e = go (rw e at (assignment-refuses allowed m))
+  where
+    go : AssignmentRefuses m (A.Refused fault) → AssignmentFailsAt m (fault .number) (fault .place)
+    go (AssignmentRefuses.refused h) = h
+
+-- ---- an update
+
+pub data UpdateRefuses (held : ℕ → Bool) (typeOf : ℕ → ℕ) (m : List ℕ) : UpdateRead → Type 0 where
+  type-unknown : {fault : Fault} → fault .number ≡ unknownType → held (updateIdIn m) ≡ true → knownType (typeOf (updateIdIn m)) ≡ false
+      → UpdateRefuses held typeOf m (U.Refused fault)
+  refused : {fault : Fault} → fault .number ≢ unknownType → UpdateFailsAt typeOf m (fault .number) (fault .place) → UpdateRefuses held typeOf m (U.Refused fault)
+  taken : {id q v : ℕ} → UpdateRefuses held typeOf m (U.Update id q v)
+
+pub update-refuses : (held : ℕ → Bool) (typeOf : ℕ → ℕ) (m : List ℕ) → UpdateRefuses held typeOf m (parseUpdate held typeOf m)
+unfolding parseBehindUpdateId parseUpdate parseValueAt
+update-refuses held typeOf m =
+    by-test P _ _ _ (λ _. by-test P _ _ _ (λ h. by-test P _ _ _ (λ l. by-type h (leb-true _ _ l) (knownType type) refl)
+    (λ _. early 1 3 (omega arith))) (λ _. early 6 1 (omega arith))) (λ _. early 1 1 (omega arith))
+  where
+    P : UpdateRead → Type 0
+    P = UpdateRefuses held typeOf m
+
+    type : ℕ
+    type = typeOf (updateIdIn m)
+
+    early : (number place : ℕ) → number < 7 → P (U.Refused (faultAt number place))
+    early number place h =
+        let other : number ≢ 7 = λ e. omega arith in
+        UpdateRefuses.refused other (UpdateFailsAt.elsewhere h)
+
+    go : 5 ≤ length m → knownType type ≡ true → (r : Parsed) → Refuses (ValueFailsAt type (drop 5 m)) r
+        → P (andThen U.Refused (movedBy 5 r) (λ v. U.Update (updateIdIn m) (decode16 (drop 3 m)) v))
+    go l known (Refused fault) (Refuses.refused h) =
+        UpdateRefuses.refused (value-of-known type (drop 5 m) (fault .number) (fault .place) known h) (UpdateFailsAt.value known l h)
+    go l known (Taken v) h = UpdateRefuses.taken
+
+    by-type : held (updateIdIn m) ≡ true → 5 ≤ length m → (known : Bool) → knownType type ≡ known
+        → P (andThen U.Refused (movedBy 5 (parseValue type (drop 5 m))) (λ v. U.Update (updateIdIn m) (decode16 (drop 3 m)) v))
+    by-type h l true k = go l k _ (value-refuses type (drop 5 m))
+    by-type h l false k = rw (value-unknown type (drop 5 m) k) (UpdateRefuses.type-unknown refl h k)
+
+pub update-fails : UpdateFails
+update-fails held typeOf m known fault e = go (rw e at (update-refuses held typeOf m))
+  where
+    go : UpdateRefuses held typeOf m (U.Refused fault) → UpdateFailsAt typeOf m (fault .number) (fault .place)
+    go (UpdateRefuses.type-unknown n h k) = absurd (false≢true (sym k ∙ known _ h))
+    go (UpdateRefuses.refused n h) = h
+
+-- ---- a message
+
+pub place-in-message : PlaceInMessage
+place-in-message typeOf m number place (MessageFailsAt.assignment k f) tells = go number place f tells
+  where
+    go : (number place : ℕ) → AssignmentFailsAt m number place → TellsPlace number → place < length m
+    go number place (AssignmentFailsAt.name {place = inner} h) tells = omega (arith, text-within 66 0 (drop 1 m) number inner h tells, length-drop 1 m)
+    go number place (AssignmentFailsAt.type name there h) tells = there
+    go number place (AssignmentFailsAt.value {place = inner} name known there h) tells =
+        omega (arith, value-within (getD m (typeStart m) 0) (drop (valueStart m) m) number inner known h tells, length-drop (valueStart m) m)
+    go number place (AssignmentFailsAt.elsewhere l) tells = absurd (omega arith)
+place-in-message typeOf m number place (MessageFailsAt.update k f) tells = go number place f tells
+  where
+    go : (number place : ℕ) → UpdateFailsAt typeOf m number place → TellsPlace number → place < length m
+    go number place (UpdateFailsAt.value {place = inner} known there h) tells =
+        omega (arith, value-within (typeOf (updateIdIn m)) (drop 5 m) number inner known h tells, length-drop 5 m)
+    go number place (UpdateFailsAt.elsewhere l) tells = absurd (omega arith)
+
+module _ (t : ℕ) (m : List ℕ) where
+  Tells : Decoded → Type 0
+  Tells d = Told (ReadingFailsAt t m) (numberOf d) (placeOf d)
+
+  of-assignment : getD m 0 0 ≡ assignmentKind → (a : AssignmentRead) → AssignmentRefuses m a → Tells (ofAssignment a)
+  unfolding Tells
+  of-assignment k (A.Refused fault) (AssignmentRefuses.refused h) = told _ fault (λ _. ReadingFailsAt.in-message (MessageFailsAt.assignment k h))
+  of-assignment k (A.Assignment n type id number v) h = untold _ 0 (λ tells. omega arith)
+
+  of-update : getD m 0 0 ≡ updateKind → (u : UpdateRead) → UpdateRefuses (idAllowed Any) (λ _. t) m u → Tells (ofUpdate u)
+  unfolding Tells pick
+  of-update k (U.Refused fault) (UpdateRefuses.type-unknown n h unknown) =
+      told _ (typeGiven fault) (λ _. rw n (ReadingFailsAt.type-given k unknown))
+  of-update k (U.Refused fault) (UpdateRefuses.refused n h) =
+      told _ (typeGiven fault) (λ _. rw (ne-eqb (fault .number) 7 n) (ReadingFailsAt.in-message (MessageFailsAt.update k h)))
+  of-update k (U.Update id number v) h = untold _ 0 (λ tells. omega arith)
+
+  none : (d : Decoded) → numberOf d ≡ 0 → placeOf d ≡ 0 → Tells d
+  unfolding Tells
+  none d n p = rw (n, p) (untold _ 0 (λ tells. omega arith))
+
+  early : (number place : ℕ) → number < 7 → Tells (D.Refused (faultAt number place))
+  unfolding Tells
+  early number place h = told _ (faultAt number place) (λ tells. absurd (omega arith))
+
+  of-revision : (isHello : Bool) → Tells (parseRevision isHello m)
+  unfolding parseRevision
+  of-revision isHello =
+      by-test Tells _ _ _ (λ _. by-test Tells isHello _ _ (λ _. none (D.Hello _) refl refl) (λ _. none (D.Unsupported _) refl refl)) (λ _. early 1 1 (omega arith))
+
+  tells : Tells (parseMessage t m)
+  unfolding parseMessage parseByKind
+  tells =
+      by-test Tells _ _ _ (λ _.
+      by-test Tells _ _ _ (λ _. none D.KeepAlive refl refl) (λ _.
+      by-test Tells _ _ _ (λ _. of-revision true) (λ _.
+      by-test Tells _ _ _ (λ _. of-revision false) (λ _.
+      by-test Tells _ _ _ (λ _. none D.HelloComplete refl refl) (λ _.
+      by-test Tells _ _ _ (λ k. of-assignment (eqb-true _ _ k) _ (assignment-refuses (idAllowed Any) m)) (λ _.
+      by-test Tells _ _ _ (λ k. of-update (eqb-true _ _ k) _ (update-refuses (idAllowed Any) (λ _. t) m)) (λ _. early 4 0 (omega arith))))))))
+      (λ _. early 1 0 (omega arith))
+
+pub reading-tells : ReadingTells
+unfolding Tells
+reading-tells t m = tells t m
