@@ -13,3 +13,4 @@ pub mod CopyTakenLaws
 pub mod ComputedCopy
 pub mod CopyDoneLaws
 pub mod RefusedLaws
+pub mod PlaceTellsLaws

@@ -1,0 +1,52 @@
+-- "Say where the fault is": what is true at the place that a call's answer tells, for every limit, memory and call. Proved in proofs/PlaceTellsLaws.antt.
+use Prim.Native.Nat.{ℕ, _<_}
+use mathlib.Core.Bool.{true}
+use mathlib.Core.List.{List}
+use mathlib.Core.Path.{_≡_}
+use lib.ListN.{length, getD}
+use Rattle.field.specs.Place.{TellsPlace, Told}
+use Rattle.value.specs.Value.{knownType}
+use Rattle.value.specs.Fails.{LoneFailsAt}
+use Rattle.message.specs.Layout.{Entry}
+use Rattle.message.specs.Fails.{MessageFailsAt}
+use Rattle.writer.specs.Fails.{EntryFailsAt}
+use Rattle.table.specs.Table.{TableMemory, defaultEntry, entriesOf}
+use Rattle.protocol.specs.Judge.{Call, clientMessage, localCreate, localWrite}
+use Rattle.protocol.specs.Step.{ServerMemory, LentCall, callStep}
+use Rattle.protocol.specs.Copy.{copyMessage}
+use Rattle.protocol.specs.Place.{callPlace, copyPlace}
+use Rattle.protocol.specs.Taken.{messageCall}
+
+-- "the stored entry's type"
+abbrev pub storedType : List Entry → ℕ → ℕ
+storedType es id = getD es id defaultEntry .type
+
+-- "counted from the start of the message, name or value lent": the field of the call that breaks the rule of the number; other calls read none
+pub data CallFailsAt (es : List Entry) : Call → (number place : ℕ) → Type 0 where
+  in-message : {c : ℕ} {m : List ℕ} {number place : ℕ} → MessageFailsAt (storedType es) m number place → CallFailsAt es (clientMessage c m) number place
+  in-entry : {name : List ℕ} {type : ℕ} {value : List ℕ} {number place : ℕ} → EntryFailsAt name type value number place
+      → CallFailsAt es (localCreate name type value) number place
+  in-value : {id : ℕ} {value : List ℕ} {number place : ℕ} → id < length es → knownType (storedType es id) ≡ true
+      → LoneFailsAt (storedType es id) value number place → CallFailsAt es (localWrite id value) number place
+
+abbrev pub CallTells : Type 0
+CallTells =
+    (limit : ℕ) (mem : ServerMemory) (k : LentCall)
+    → Told (CallFailsAt (entriesOf (mem .table)) (k .call)) (callStep limit mem k .number) (callPlace limit mem (k .call))
+
+-- the place in a client's message is that of one of its bytes
+abbrev pub CallPlaceInMessage : Type 0
+CallPlaceInMessage =
+    (limit : ℕ) (mem : ServerMemory) (c : ℕ) (m out : List ℕ) → TellsPlace (callStep limit mem (messageCall c m out) .number)
+    → callPlace limit mem (clientMessage c m) < length m
+
+-- ---- the copy
+
+abbrev pub CopyTells : Type 0
+CopyTells =
+    (limit : ℕ) (table : TableMemory) (m : List ℕ)
+    → Told (MessageFailsAt (storedType (entriesOf table)) m) (copyMessage limit table m .number) (copyPlace limit table m)
+
+abbrev pub CopyPlaceInMessage : Type 0
+CopyPlaceInMessage =
+    (limit : ℕ) (table : TableMemory) (m : List ℕ) → TellsPlace (copyMessage limit table m .number) → copyPlace limit table m < length m
