@@ -12,11 +12,6 @@ use Rattle.field.specs.declared.Parsed.{Parsed}
 use Rattle.field.specs.declared.Parsed.the-variants.{Refused, Taken}
 use Rattle.field.proofs.ChoiceLaws.{by-test}
 
--- a refusal that concerns no field past the first byte has the place 0
-pub no-place : (number : ℕ) → reportedPlace (faultAt number 0) ≡ 0
-unfolding reportedPlace
-no-place number = by-test (λ (p : ℕ). p ≡ 0) _ 0 0 (λ _. refl) (λ _. refl)
-
 -- what holds of a refusal is told
 pub told : (P : ℕ → ℕ → Type 0) (fault : Fault) → (TellsPlace (fault .number) → P (fault .number) (fault .place)) → Told P (fault .number) (reportedPlace fault)
 unfolding reportedPlace pick
