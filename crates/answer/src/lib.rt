@@ -2,9 +2,10 @@
 use field::DONE;
 use field::Fault;
 use field::IGNORED;
+use field::OUTPUT_TOO_SHORT;
 use field::UNSOUND;
 ghost use mathlib.Core.Path.{_≡_};
-ghost use Rattle.field.specs.Answer.{unsound};
+ghost use Rattle.field.specs.Answer.{outputTooShort, unsound};
 ghost use Rattle.answer.specs.Answers.{bareAnswer, refusedAnswer, ignoredAnswer, doneAnswer};
 
 // What a call answers: its number, the set of recipients, bytes taken and bytes sent, and the place of the field that failed.
@@ -17,7 +18,7 @@ pub struct Answer {
     pub place: usize,
 }
 
-// What a call answers on memory that is unsound or too small.
+// The answer on memory that is unsound or too small: a number alone. All other answers are made of it.
 pub const ON_UNSOUND: Answer = Answer {
     number: UNSOUND,
     recipients: 0,
@@ -26,17 +27,13 @@ pub const ON_UNSOUND: Answer = Answer {
     place: 0,
 };
 
-// A number alone: nothing is taken or sent, and no field failed.
-pub fn bare(number: u8) -> Answer
+// A number alone: nothing is taken or sent, and no place is told.
+fn bare(number: u8) -> Answer
     ensures { λ r. ⌜ r ≡ bareAnswer number ⌝ }
 {
-    Answer {
-        number: number,
-        recipients: 0,
-        taken: 0,
-        sent: 0,
-        place: 0,
-    }
+    let mut a = ON_UNSOUND;
+    a.number = number;
+    a
 }
 
 pub fn unsound() -> Answer
@@ -45,38 +42,35 @@ pub fn unsound() -> Answer
     ON_UNSOUND
 }
 
+// The output is shorter than what would be sent.
+pub fn no_room() -> Answer
+    ensures { λ r. ⌜ r ≡ bareAnswer outputTooShort ⌝ }
+{
+    bare(OUTPUT_TOO_SHORT)
+}
+
 pub fn refused(fault: Fault) -> Answer
     ensures { λ r. ⌜ r ≡ refusedAnswer fault ⌝ }
 {
-    Answer {
-        number: fault.number,
-        recipients: 0,
-        taken: 0,
-        sent: 0,
-        place: field::reported_place(fault),
-    }
+    let mut a = bare(fault.number);
+    a.place = field::reported_place(fault);
+    a
 }
 
 pub fn ignored(taken: usize) -> Answer
     ensures { λ r. ⌜ r ≡ ignoredAnswer taken ⌝ }
 {
-    Answer {
-        number: IGNORED,
-        recipients: 0,
-        taken: taken,
-        sent: 0,
-        place: 0,
-    }
+    let mut a = bare(IGNORED);
+    a.taken = taken;
+    a
 }
 
 pub fn done(recipients: u16, taken: usize, sent: usize) -> Answer
     ensures { λ r. ⌜ r ≡ doneAnswer recipients taken sent ⌝ }
 {
-    Answer {
-        number: DONE,
-        recipients: recipients,
-        taken: taken,
-        sent: sent,
-        place: 0,
-    }
+    let mut a = bare(DONE);
+    a.recipients = recipients;
+    a.taken = taken;
+    a.sent = sent;
+    a
 }

@@ -17,21 +17,22 @@ use Rattle.client.specs.declared.CopyDecision.the-variants as D
 
 -- an answer, with the copy as the call leaves it
 abbrev pub copied : Copied → TableMemory → WithPlace CopyResult
-copied a memory = record { result = record { number = a .number; taken = a .taken; revision = a .revision; memory = memory }; place = a .place }
+copied a memory =
+    record { result = record { number = a .number; taken = a .taken; revision = a .revision; memory = memory }; place = a .place }
 
 -- a number alone
-abbrev pub bareCopy : (number : ℕ) → Copied
-bareCopy number = record { number = number; revision = 0; taken = 0; place = 0 }
+abbrev pub bareCopied : (number : ℕ) → Copied
+bareCopied number = record { number = number; revision = 0; taken = 0; place = 0 }
 
 -- "A refusal .. reports 0 bytes taken"; "0 is reported in every other case"
-abbrev pub refusedCopy : Fault → Copied
-refusedCopy fault = record { number = fault .number; revision = 0; taken = 0; place = reportedPlace fault }
+abbrev pub refusedCopied : Fault → Copied
+refusedCopied fault = record { number = fault .number; revision = 0; taken = 0; place = reportedPlace fault }
 
-abbrev pub ignoredCopy : (taken revision : ℕ) → Copied
-ignoredCopy taken revision = record { number = ignored; revision = revision; taken = taken; place = 0 }
+abbrev pub ignoredCopied : (taken revision : ℕ) → Copied
+ignoredCopied taken revision = record { number = ignored; revision = revision; taken = taken; place = 0 }
 
-abbrev pub storedCopy : (taken : ℕ) → Copied
-storedCopy taken = record { number = done; revision = 0; taken = taken; place = 0 }
+abbrev pub storedCopied : (taken : ℕ) → Copied
+storedCopied taken = record { number = done; revision = 0; taken = taken; place = 0 }
 
 -- the decision on a message m
 abbrev pub copyVerdictOf : List ℕ → CopyDecision → CopyVerdict

@@ -32,7 +32,8 @@ ghost use Rattle.soundness.specs.Sound.{soundTable};
 ghost use Rattle.protocol.specs.Copy.{judgeCopyAssignment, judgeCopyUpdate, judgeUnsupported, judgeCopy};
 ghost use Rattle.protocol.specs.Copy.{copyFreshStart};
 ghost use Rattle.protocol.specs.Place.{executeCopyWithPlace, copyWithPlace};
-ghost use Rattle.client.specs.Lent.{copied, bareCopy, refusedCopy, ignoredCopy, storedCopy, copyVerdictOf, Copyable, DecidesCopy};
+ghost use Rattle.client.specs.Lent.{copied, bareCopied, refusedCopied, ignoredCopied, storedCopied};
+ghost use Rattle.client.specs.Lent.{copyVerdictOf, Copyable, DecidesCopy};
 
 // What reading a message into the copy answers: the number, the revision of 0x02, bytes taken, and the place of the field that failed.
 #[repr(C)]
@@ -43,7 +44,7 @@ pub struct Copied {
     pub place: usize,
 }
 
-// What reading a message answers on memory that is unsound or too small.
+// The answer on memory that is unsound or too small: a number alone. All other answers are made of it.
 pub const ON_UNSOUND: Copied = Copied {
     number: UNSOUND,
     revision: 0,
@@ -51,43 +52,44 @@ pub const ON_UNSOUND: Copied = Copied {
     place: 0,
 };
 
+// A number alone.
+fn bare(number: u8) -> Copied
+    ensures { λ r. ⌜ r ≡ bareCopied number ⌝ }
+{
+    let mut a = ON_UNSOUND;
+    a.number = number;
+    a
+}
+
 fn unsound() -> Copied
-    ensures { λ r. ⌜ r ≡ bareCopy unsound ⌝ }
+    ensures { λ r. ⌜ r ≡ bareCopied unsound ⌝ }
 {
     ON_UNSOUND
 }
 
 fn refused(fault: Fault) -> Copied
-    ensures { λ r. ⌜ r ≡ refusedCopy fault ⌝ }
+    ensures { λ r. ⌜ r ≡ refusedCopied fault ⌝ }
 {
-    Copied {
-        number: fault.number,
-        revision: 0,
-        taken: 0,
-        place: field::reported_place(fault),
-    }
+    let mut a = bare(fault.number);
+    a.place = field::reported_place(fault);
+    a
 }
 
 fn ignored(taken: usize, revision: u16) -> Copied
-    ensures { λ r. ⌜ r ≡ ignoredCopy taken revision ⌝ }
+    ensures { λ r. ⌜ r ≡ ignoredCopied taken revision ⌝ }
 {
-    Copied {
-        number: field::IGNORED,
-        revision: revision,
-        taken: taken,
-        place: 0,
-    }
+    let mut a = bare(field::IGNORED);
+    a.revision = revision;
+    a.taken = taken;
+    a
 }
 
 fn stored(taken: usize) -> Copied
-    ensures { λ r. ⌜ r ≡ storedCopy taken ⌝ }
+    ensures { λ r. ⌜ r ≡ storedCopied taken ⌝ }
 {
-    Copied {
-        number: field::DONE,
-        revision: 0,
-        taken: taken,
-        place: 0,
-    }
+    let mut a = bare(field::DONE);
+    a.taken = taken;
+    a
 }
 
 // ---- what a message comes to
@@ -320,7 +322,7 @@ pub fn copy_fresh(heads: &[u16], bytes: &[u8], count: &mut u16) -> Answer
         return answer::unsound();
     }
     *count = 0;
-    answer::bare(field::DONE)
+    answer::done(0, 0, 0)
 }
 
 // One message from the server.

@@ -72,3 +72,19 @@ fieldsIn r =
           (r .«value_length»);
       place = r .place;
     }
+
+-- a number alone
+abbrev pub bareFields : (number : ℕ) → Fields
+bareFields number =
+    record {
+      number = number;
+      kind = 0;
+      «type_code» = 0;
+      revision = 0;
+      id = 0;
+      «entry_number» = 0;
+      taken = 0;
+      «name_length» = 0;
+      «value_length» = 0;
+      place = 0;
+    }

@@ -12,7 +12,7 @@ ghost use Rattle.field.specs.Answer.{done};
 ghost use Rattle.field.specs.Place.{reportedPlace};
 ghost use Rattle.message.specs.Layout.{longestAssignment};
 ghost use Rattle.message.specs.Reader.{parseMessage, takenOf};
-ghost use Rattle.fields.specs.Fields.{fields, fieldsWithPlace, fieldsIn};
+ghost use Rattle.fields.specs.Fields.{fields, fieldsWithPlace, fieldsIn, bareFields};
 
 // A message's fields, those that its kind lacks being 0; and the place of the field that failed.
 #[repr(C)]
@@ -29,22 +29,33 @@ pub struct Fields {
     pub place: usize,
 }
 
-// A message of a kind with no entry.
-fn lone_fields(kind: u8, revision: u16, taken: usize) -> Fields
-    ensures { λ r. ⌜ fieldsIn r ≡ record { result = fields done kind 0 revision 0 0 taken 0 0; place = 0 } ⌝ }
+// A number alone.
+fn bare(number: u8) -> Fields
+    ensures { λ r. ⌜ r ≡ bareFields number ⌝ }
 {
     Fields {
-        number: DONE,
-        kind: kind,
+        number: number,
+        kind: 0,
         type_code: 0,
-        revision: revision,
+        revision: 0,
         id: 0,
         entry_number: 0,
-        taken: taken,
+        taken: 0,
         name_length: 0,
         value_length: 0,
         place: 0,
     }
+}
+
+// A message of a kind with no entry.
+fn lone_fields(kind: u8, revision: u16, taken: usize) -> Fields
+    ensures { λ r. ⌜ fieldsIn r ≡ record { result = fields done kind 0 revision 0 0 taken 0 0; place = 0 } ⌝ }
+{
+    let mut f = bare(DONE);
+    f.kind = kind;
+    f.revision = revision;
+    f.taken = taken;
+    f
 }
 
 // A message with an entry.
@@ -61,35 +72,23 @@ fn entry_fields(
         ⌜ fieldsIn r
         ≡ record { result = fields done kind «type_code» 0 id «entry_number» taken «name_length» «value_length»; place = 0 } ⌝ }
 {
-    Fields {
-        number: DONE,
-        kind: kind,
-        type_code: type_code,
-        revision: 0,
-        id: id,
-        entry_number: entry_number,
-        taken: taken,
-        name_length: name_length,
-        value_length: value_length,
-        place: 0,
-    }
+    let mut f = bare(DONE);
+    f.kind = kind;
+    f.type_code = type_code;
+    f.id = id;
+    f.entry_number = entry_number;
+    f.taken = taken;
+    f.name_length = name_length;
+    f.value_length = value_length;
+    f
 }
 
 fn refused_fields(fault: Fault) -> Fields
     ensures { λ r. ⌜ fieldsIn r ≡ record { result = fields (fault .number) 0 0 0 0 0 0 0 0; place = reportedPlace fault } ⌝ }
 {
-    Fields {
-        number: fault.number,
-        kind: 0,
-        type_code: 0,
-        revision: 0,
-        id: 0,
-        entry_number: 0,
-        taken: 0,
-        name_length: 0,
-        value_length: 0,
-        place: field::reported_place(fault),
-    }
+    let mut f = bare(fault.number);
+    f.place = field::reported_place(fault);
+    f
 }
 
 // A decoded message's fields.

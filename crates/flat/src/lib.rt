@@ -23,7 +23,7 @@ pub struct ScalarAnswer {
     pub value: f64,
 }
 
-// What reading answers on memory that is unsound or too small.
+// The answer on memory that is unsound or too small: a number alone. Every other refusal is made of it.
 pub const ON_UNSOUND: ScalarAnswer = ScalarAnswer {
     number: UNSOUND,
     found: 0,
@@ -110,12 +110,11 @@ fn answer_scalar(s: Scalar) -> ScalarAnswer
             flag: false,
             value: 0.0,
         },
-        Scalar::Refused(number) => ScalarAnswer {
-            number: number,
-            found: 0,
-            flag: false,
-            value: 0.0,
-        },
+        Scalar::Refused(number) => {
+            let mut refused = ON_UNSOUND;
+            refused.number = number;
+            refused
+        }
     }
 }
 

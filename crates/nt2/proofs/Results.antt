@@ -13,7 +13,7 @@ use Rattle.answer.specs.Answers.{bareAnswer}
 use Rattle.answer.specs.declared.Answer.{Answer}
 use Rattle.answer.proofs.Answer as A
 use Rattle.answer.proofs.Answer.Laws as A′
-use Rattle.client.specs.Lent.{bareCopy}
+use Rattle.client.specs.Lent.{bareCopied}
 use Rattle.client.specs.declared.Copied.{Copied}
 use Rattle.client.proofs.Copied as C
 use Rattle.client.proofs.Copied.Laws as C′
@@ -29,7 +29,7 @@ pub tooFew-is : Is A.the-row tooFew (A′.lowered tooFew ∷ [])
 tooFew-is = LL.owes A.the-type A′.the-laws tooFew ((refl, lit< tt), ((refl, lit< tt), ((refl, lit< tt), ((refl, lit< tt), ((refl, lit< tt), tt)))))
 
 abbrev pub copiedNothing : Copied
-copiedNothing = bareCopy unsound
+copiedNothing = bareCopied unsound
 
 pub copiedNothing-is : Is C.the-row copiedNothing (C′.lowered copiedNothing ∷ [])
 copiedNothing-is = LL.owes C.the-type C′.the-laws copiedNothing ((refl, lit< tt), ((refl, lit< tt), ((refl, lit< tt), ((refl, lit< tt), tt))))

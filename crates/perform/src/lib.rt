@@ -1,7 +1,5 @@
 // What a verdict does: the answer, the output, and lent memory afterwards.
 use answer::Answer;
-use field::DONE;
-use field::OUTPUT_TOO_SHORT;
 use judge::Decision;
 use judge::MarkDecision;
 use message::ASSIGNMENT_FIXED;
@@ -14,8 +12,7 @@ ghost use mathlib.Core.Bool.{true};
 ghost use Prim.Native.Nat.{ℕ, _+_, _≤_, _<_};
 ghost use mathlib.Core.List.{List};
 ghost use lib.ListN.{length, set};
-ghost use Rattle.field.specs.Answer.{done};
-ghost use Rattle.answer.specs.Answers.{bareAnswer};
+ghost use Rattle.answer.specs.Answers.{doneAnswer};
 ghost use Rattle.table.specs.Table.{TableMemory, Holds, lent, maxEntries};
 ghost use Rattle.message.specs.Layout.{maxNameLength};
 ghost use Rattle.message.specs.Lent.{lentEntry};
@@ -33,11 +30,11 @@ ghost use Rattle.sequence.specs.SequenceNumber.{start};
 // Another mark of a connection: nothing is sent.
 fn put_mark(marks: &mut [u8], c: usize, mark: u8) -> Answer
     requires { ⌜ (c < connections) × (connections ≤ length (now marks)) ⌝ }
-    ensures answer { λ r. ⌜ r ≡ bareAnswer done ⌝ }
+    ensures answer { λ r. ⌜ r ≡ doneAnswer 0 0 0 ⌝ }
     ensures marks { λ _. ⌜ now (marks .exit) ≡ set (now (marks .entry)) c mark ⌝ }
 {
     marks[c] = mark;
-    answer::bare(DONE)
+    answer::done(0, 0, 0)
 }
 
 // A decision on opening or leaving.
@@ -75,7 +72,7 @@ fn greet(
 {
     let length = hello::hello_length(heads, bytes, count);
     if out.len() < length {
-        return answer::bare(OUTPUT_TOO_SHORT);
+        return answer::no_room();
     }
     let recipients = recipients::only_sender(marks, c);
     let sent = hello::write_hello(heads, bytes, count, out);
@@ -92,7 +89,7 @@ fn turn_away(marks: &mut [u8], c: usize, out: &mut [u8]) -> Answer
         ≡ executeWithPlace (besideMarks table (marks .entry)) (now (out .entry)) (unsupportedRevision c)) ⌝ }
 {
     if out.len() < REVISION_LENGTH {
-        return answer::bare(OUTPUT_TOO_SHORT);
+        return answer::no_room();
     }
     let recipients = recipients::only_sender(marks, c);
     let sent = encoder::write_revision(out, message::UNSUPPORTED, judge::REVISION);
@@ -125,7 +122,7 @@ pub fn store_new(
 {
     let id = *count;
     if out.len() < ASSIGNMENT_FIXED + name.len() + value.len() {
-        return answer::bare(OUTPUT_TOO_SHORT);
+        return answer::no_room();
     }
     let number = SequenceNumber::start();
     let sent = encoder::write_assignment(out, name, type_code, id, number.0, value);
@@ -162,7 +159,7 @@ pub fn store_update(
         (storeUpdate id number (now (value .entry)) taken to)) ⌝ }
 {
     if out.len() < UPDATE_VALUE_START + value.len() {
-        return answer::bare(OUTPUT_TOO_SHORT);
+        return answer::no_room();
     }
     let sent = encoder::write_update(out, id, number, value);
     table::store_value(heads, bytes, id as usize, number, value);

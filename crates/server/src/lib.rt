@@ -1,6 +1,5 @@
 // The server half: each call on a lent table, with its connection marks and an output. A call judges soundness, judges, and performs.
 use answer::Answer;
-use field::DONE;
 use field::UNKNOWN_ID;
 use field::UNSOUND;
 use judge::CreateDecision;
@@ -63,7 +62,7 @@ pub fn fresh(heads: &[u16], bytes: &[u8], count: &mut u16, marks: &mut [u8]) -> 
     }
     close_all(marks);
     *count = 0;
-    answer::bare(DONE)
+    answer::done(0, 0, 0)
 }
 
 // A connection opens.

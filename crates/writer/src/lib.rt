@@ -1,7 +1,6 @@
 // The message writer of Protocol Revision 2.0: fields are checked, and their message is written.
 use answer::Answer;
 use field::NOT_UTF8;
-use field::OUTPUT_TOO_SHORT;
 use field::Parsed;
 use field::TOO_LONG;
 use field::UNKNOWN_KIND;
@@ -140,7 +139,7 @@ pub fn write_message(
         return answer::refused(fault_of(needed));
     };
     if out.len() < size {
-        return answer::bare(OUTPUT_TOO_SHORT);
+        return answer::no_room();
     }
     let sent = write_checked(kind, revision, name, type_code, id, number, value, out);
     answer::done(0, 0, sent)

@@ -27,15 +27,15 @@ returns-2 c =
     let bytes = t .before .before .before .before .args .bytes .now in
     rw (c .unsound2 .ensures, le-leb _ _ (t .before .if1 .left), lt-leb 20480 (length bytes) (omega (arith, t .if2 .taken))) (refl, refl)
 
-bare-requires : tie.Need-bare-requires
-bare-requires c κs = search needs
+done-requires : tie.Need-done-requires
+done-requires c κs = search needs
 
 returns-3 : tie.Need-returns-3
 unfolding copyFreshStart largeEnough pick
 returns-3 c =
     let t = c .before in
     let bytes = t .before .before .before .before .args .bytes .now in
-    rw (c .bare .ensures, le-leb _ _ (t .before .if1 .left), le-leb 20480 (length bytes) (omega (arith, t .if2 .left))) (refl, refl)
+    rw (c .done .ensures, le-leb _ _ (t .before .if1 .left), le-leb 20480 (length bytes) (omega (arith, t .if2 .left))) (refl, refl)
 
 pub copy-fresh-spec : {M : Type 1} → statement M
 copy-fresh-spec =
@@ -45,5 +45,5 @@ copy-fresh-spec =
     returns
     unsound-requires-2
     returns-2
-    bare-requires
+    done-requires
     returns-3)

@@ -17,8 +17,8 @@ memory s = tableMemory (s .args .heads .now) (s .args .bytes .now) (s .args .cou
 hello-length-requires : tie.Need-hello-length-requires
 hello-length-requires c κs = let s = c .before .before .before .before in sound-readable maxEntries (memory s) (s .pre .0 .1)
 
-bare-requires : tie.Need-bare-requires
-bare-requires c κs = search needs
+no-room-requires : tie.Need-no-room-requires
+no-room-requires c κs = search needs
 
 returns : tie.Need-returns
 unfolding execute pick
@@ -26,7 +26,7 @@ returns c =
     let t = c .before in
     let l = t .before in
     let s = l .before .before .before .before .before in
-    rw (c .bare .ensures, lt-leb (length (helloAnswer 0 (entriesOf (memory s)))) (length (s .args .out .now)) (omega (arith, t .if1 .taken, l .hello-length .ensures .0)))
+    rw (c .no-room .ensures, lt-leb (length (helloAnswer 0 (entriesOf (memory s)))) (length (s .args .out .now)) (omega (arith, t .if1 .taken, l .hello-length .ensures .0)))
 
 only-sender-requires : tie.Need-only-sender-requires
 only-sender-requires c κs = search needs
@@ -63,7 +63,7 @@ greet-spec =
     tie.close
     (tie.spec
     hello-length-requires
-    bare-requires
+    no-room-requires
     returns
     only-sender-requires
     write-hello-requires

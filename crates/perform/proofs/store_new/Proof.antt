@@ -27,8 +27,8 @@ add-if1 c = search needs
 add-if1-2 : tie.Need-add-if1-2
 add-if1-2 c = search needs
 
-bare-requires : tie.Need-bare-requires
-bare-requires c κs = search needs
+no-room-requires : tie.Need-no-room-requires
+no-room-requires c κs = search needs
 
 returns : tie.Need-returns
 unfolding execute pick
@@ -36,7 +36,7 @@ returns c = λ marks h.
     let t = c .before in
     let s = t .before .before .before .before .before .before .before in
     let id = s .args .count .now in
-    rw (c .bare .ensures, lt-leb (length (assignmentBytes id (new s))) (length (s .args .out .now)) (omega (arith, t .if1 .taken, length-assignment id (new s))))
+    rw (c .no-room .ensures, lt-leb (length (assignmentBytes id (new s))) (length (s .args .out .now)) (omega (arith, t .if1 .taken, length-assignment id (new s))))
 
 start-requires : tie.Need-start-requires
 start-requires c κs = search needs
@@ -81,7 +81,7 @@ store-new-spec =
     (tie.spec
     add-if1
     add-if1-2
-    bare-requires
+    no-room-requires
     returns
     start-requires
     write-assignment-requires

@@ -14,15 +14,15 @@ use Rattle.perform.proofs.store_update.Tie as tie
 add-if1 : tie.Need-add-if1
 add-if1 c = search needs
 
-bare-requires : tie.Need-bare-requires
-bare-requires c κs = search needs
+no-room-requires : tie.Need-no-room-requires
+no-room-requires c κs = search needs
 
 returns : tie.Need-returns
 unfolding execute pick
 returns c = λ count marks to h.
     let t = c .before in
     let a = t .before .before .before .before .before .args in
-    rw (c .bare .ensures, lt-leb (length (updateBytes (a .id) (a .number) (a .value .now))) (length (a .out .now)) (omega (arith, t .if1 .taken, length-update (a .id) (a .number) (a .value .now))))
+    rw (c .no-room .ensures, lt-leb (length (updateBytes (a .id) (a .number) (a .value .now))) (length (a .out .now)) (omega (arith, t .if1 .taken, length-update (a .id) (a .number) (a .value .now))))
 
 write-update-requires : tie.Need-write-update-requires
 write-update-requires c κs = search needs
@@ -56,7 +56,7 @@ store-update-spec =
     tie.close
     (tie.spec
     add-if1
-    bare-requires
+    no-room-requires
     returns
     write-update-requires
     store-value-requires

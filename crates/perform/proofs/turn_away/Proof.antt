@@ -11,15 +11,15 @@ use borrow.Author.Needs.{needs}
 use Rattle.perform.proofs.turn_away.Statement.{statement}
 use Rattle.perform.proofs.turn_away.Tie as tie
 
-bare-requires : tie.Need-bare-requires
-bare-requires c κs = search needs
+no-room-requires : tie.Need-no-room-requires
+no-room-requires c κs = search needs
 
 returns : tie.Need-returns
 unfolding execute pick
 returns c = λ table.
     let t = c .before in
     let a = t .before .before .before .args in
-    rw (c .bare .ensures, lt-leb (length (revisionBytes unsupportedKind protocolRevision)) (length (a .out .now)) (omega (arith, t .if1 .taken, length-revision unsupportedKind protocolRevision)))
+    rw (c .no-room .ensures, lt-leb (length (revisionBytes unsupportedKind protocolRevision)) (length (a .out .now)) (omega (arith, t .if1 .taken, length-revision unsupportedKind protocolRevision)))
 
 only-sender-requires : tie.Need-only-sender-requires
 only-sender-requires c κs = search needs
@@ -52,7 +52,7 @@ pub turn-away-spec : {M : Type 1} → statement M
 turn-away-spec =
     tie.close
     (tie.spec
-    bare-requires
+    no-room-requires
     returns
     only-sender-requires
     write-revision-requires

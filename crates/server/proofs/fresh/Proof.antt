@@ -34,8 +34,8 @@ returns-3 c =
 close-all-requires : tie.Need-close-all-requires
 close-all-requires c κs = search needs
 
-bare-requires : tie.Need-bare-requires
-bare-requires c κs = search needs
+done-requires : tie.Need-done-requires
+done-requires c κs = search needs
 
 same-length : tie.Need-same-length
 same-length c = search needs
@@ -45,7 +45,7 @@ unfolding freshStart largeEnough pick
 returns-4 c =
     let w = c .before .before .before in
     let e = w .before .before in
-    rw (c .bare .ensures, w .close-all .ensures, le-leb _ _ (e .before .before .if1 .left), le-leb _ _ (e .before .if2 .left), le-leb _ _ (e .if3 .left)) (refl, refl)
+    rw (c .done .ensures, w .close-all .ensures, le-leb _ _ (e .before .before .if1 .left), le-leb _ _ (e .before .if2 .left), le-leb _ _ (e .if3 .left)) (refl, refl)
 
 pub fresh-spec : {M : Type 1} → statement M
 fresh-spec =
@@ -58,6 +58,6 @@ fresh-spec =
     unsound-requires-3
     returns-3
     close-all-requires
-    bare-requires
+    done-requires
     same-length
     returns-4)

@@ -55,8 +55,8 @@ returns c =
     let h = needs-refused (check (fields f)) (f .before .before .before .before .args .out .now) (e .0 .0) (sym (e .1) ∙ needed-is f) in
     rw (c .refused .ensures, u .fault-of .ensures, e .1) h
 
-bare-requires : tie.Need-bare-requires
-bare-requires c κs = search needs
+no-room-requires : tie.Need-no-room-requires
+no-room-requires c κs = search needs
 
 returns-2 : tie.Need-returns-2
 returns-2 d =
@@ -65,7 +65,7 @@ returns-2 d =
     let f = n .before .before in
     let out = f .before .before .before .before .args .out .now in
     let short : length out < n .needed .given .0 .0 = omega (arith, c .if1 .taken) in
-    rw (d .bare .ensures)
+    rw (d .no-room .ensures)
     (needs-more (check (fields f)) out (n .needed .given .0 .0) (sym (n .needed .given .1) ∙ needed-is f) short)
 
 write-checked-requires : tie.Need-write-checked-requires
@@ -98,7 +98,7 @@ write-message-spec =
     fault-of-requires
     refused-requires
     returns
-    bare-requires
+    no-room-requires
     returns-2
     write-checked-requires
     done-requires

@@ -1,0 +1,12 @@
+use borrow.Author.Needs.{needs}
+use Rattle.answer.proofs.ignored.Statement.{statement}
+use Rattle.answer.proofs.ignored.Tie as tie
+
+bare-requires : tie.Need-bare-requires
+bare-requires c κs = search needs
+
+returns : tie.Need-returns
+returns c = rw (c .bare .ensures)
+
+pub ignored-spec : {M : Type 1} → statement M
+ignored-spec = tie.close (tie.spec bare-requires returns)
