@@ -149,7 +149,6 @@ value-of-known t s number place known (ValueFailsAt.many-doubles at there l) e =
 value-of-known t s number place known ValueFailsAt.not-whole e = omega arith
 
 -- the place is that of a byte
-
 pub value-within : (t : ℕ) (s : List ℕ) (number place : ℕ) → knownType t ≡ true → ValueFailsAt t s number place → TellsPlace number → place < length s
 value-within t s number place known (ValueFailsAt.unknown-type k) tells = absurd (false≢true (sym k ∙ known))
 value-within t s number place known (ValueFailsAt.not-boolean e there b) tells = there
