@@ -3,4 +3,4 @@ pub mod UnchangedLaws
 pub mod FewLaws
 pub mod Beside
 pub mod Theorem
-pub mod AsBeforeLaws
+pub mod WithoutPlaceLaws

@@ -1,3 +1,3 @@
 pub mod Lent
 pub mod Demand
-pub mod AsBefore
+pub mod WithoutPlace

@@ -26,7 +26,7 @@ pub data CopyVerdict : Type 0 where
   storeNew : Entry → (taken : ℕ) → CopyVerdict
   storeUpdate : (id number : ℕ) (value : List ℕ) (taken : ℕ) → CopyVerdict
 
--- a refusal that concerns no field past the first
+-- a refusal at the first byte, or at none
 abbrev pub refuseMessage : (number : ℕ) → CopyVerdict
 refuseMessage number = refuse (faultAt number 0)
 

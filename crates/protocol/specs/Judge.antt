@@ -44,7 +44,7 @@ pub data Verdict : Type 0 where
   storeNew : Entry → (taken : ℕ) → Verdict
   storeUpdate : (id number : ℕ) (value : List ℕ) (taken : ℕ) (to : Recipients) → Verdict
 
--- a refusal that concerns no field past the first
+-- a refusal at the first byte, or at none
 abbrev pub refuseCall : (number : ℕ) → Verdict
 refuseCall number = refuse (faultAt number 0)
 

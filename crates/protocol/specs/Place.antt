@@ -1,4 +1,4 @@
--- "Say where the fault is": the steps of both halves, as they are without it, beside the place that the answer tells.
+-- "Say where the fault is": the steps of both halves, each beside the place that the answer tells.
 use Prim.Native.Nat.{ℕ}
 use mathlib.Core.List.{List}
 use Rattle.field.specs.Choice.{demand}
@@ -28,7 +28,7 @@ placeOf (storeUpdate id number value taken to) = 0
 abbrev pub executeWithPlace : ServerMemory → List ℕ → Verdict → WithPlace CallResult
 executeWithPlace mem out v = record { result = execute mem out v; place = placeOf v }
 
--- one call: with 14 no byte was looked at
+-- one call: with 14 no byte of a message, name or value was looked at
 unfoldable pub callPlace : ℕ → ServerMemory → Call → ℕ
 callPlace limit mem call = demand (soundFor limit mem call) 0 (placeOf (judge limit (entriesOf (mem .table)) (mem .marks) call))
 

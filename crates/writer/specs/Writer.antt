@@ -118,4 +118,7 @@ writeWithPlace c out = record { result = writeResult c out; place = placeOf c }
 -- an answer, with the output as the call leaves it
 abbrev pub written : Answer → List ℕ → WithPlace WriteResult
 written a out =
-    record { result = record { number = a .number; taken = a .taken; sent = a .sent; recipients = a .recipients; output = out }; place = a .place }
+    record {
+      result = record { number = a .number; taken = a .taken; sent = a .sent; recipients = a .recipients; output = out };
+      place = a .place;
+    }

@@ -1,4 +1,4 @@
--- "01's answers gain one field .. Refusals: as before": whoever keeps a call's promise keeps the one that the call had without the place.
+-- "01's answers gain one field .. Refusals: as before": but for the place, a call that keeps its promise answers and leaves what it did without it.
 use Prim.Native.Nat.{ℕ}
 use mathlib.Core.List.{List}
 use mathlib.Core.Path.{_≡_}
@@ -14,29 +14,31 @@ use Rattle.fields.specs.declared.Fields as C
 use Rattle.nt2.specs.Lent.{HeadsTable, HeadsServer, tableOf, serverOf, pastTable, headsAnswered, headsStep, headsCopied, headsCopyMessage}
 
 -- a call of the server half: number, taken, sent, recipients, memory and output are the step's
-abbrev pub CallsAsBefore : Type 0
-CallsAsBefore =
+abbrev pub CallsWithoutPlace : Type 0
+CallsWithoutPlace =
     (m after : HeadsServer) (k : LentCall) (r : Answer) (out : List ℕ) → headsAnswered r after out ≡ headsStep m k
     → (record { number = r .number; taken = r .taken; sent = r .sent; recipients = r .recipients; memory = serverOf after; output = out }
     ≡ callStep maxEntries (serverOf m) k)
     × (pastTable (after .table) ≡ pastTable (m .table))
 
 -- a message to the copy: number, taken, revision and memory
-abbrev pub CopyAsBefore : Type 0
-CopyAsBefore =
+abbrev pub CopyWithoutPlace : Type 0
+CopyWithoutPlace =
     (t after : HeadsTable) (message : List ℕ) (r : Copied) → headsCopied r after ≡ headsCopyMessage t message
-    → (record { number = r .number; taken = r .taken; revision = r .revision; memory = tableOf after } ≡ copyMessage maxEntries (tableOf t) message)
+    → (record { number = r .number; taken = r .taken; revision = r .revision; memory = tableOf after }
+    ≡ copyMessage maxEntries (tableOf t) message)
     × (pastTable after ≡ pastTable t)
 
 -- the message writer: number, taken, sent, recipients and output
-abbrev pub WriterAsBefore : Type 0
-WriterAsBefore =
+abbrev pub WriterWithoutPlace : Type 0
+WriterWithoutPlace =
     (f : Fields) (out after : List ℕ) (r : Answer) → written r after ≡ writeWithPlace (check f) out
-    → record { number = r .number; taken = r .taken; sent = r .sent; recipients = r .recipients; output = after } ≡ writeResult (check f) out
+    → record { number = r .number; taken = r .taken; sent = r .sent; recipients = r .recipients; output = after }
+    ≡ writeResult (check f) out
 
 -- the message reader: number, fields and taken
-abbrev pub ReaderAsBefore : Type 0
-ReaderAsBefore =
+abbrev pub ReaderWithoutPlace : Type 0
+ReaderWithoutPlace =
     (updateType : ℕ) (m : List ℕ) (r : C.Fields) → fieldsIn r ≡ fieldsWithPlace (parseMessage updateType m)
     → fields (r .number) (r .kind) (r .«type_code») (r .revision) (r .id) (r .«entry_number») (r .taken) (r .«name_length») (r .«value_length»)
     ≡ fieldsOf (parseMessage updateType m)

@@ -6,18 +6,18 @@ use Rattle.protocol.specs.Step.{CallResult}
 use Rattle.protocol.specs.Copy.{CopyResult}
 use Rattle.fields.specs.Fields.{MessageFields}
 use Rattle.nt2.specs.Lent.{WithPast}
-use Rattle.nt2.specs.AsBefore.{CallsAsBefore, CopyAsBefore, WriterAsBefore, ReaderAsBefore}
+use Rattle.nt2.specs.WithoutPlace.{CallsWithoutPlace, CopyWithoutPlace, WriterWithoutPlace, ReaderWithoutPlace}
 
-pub calls-as-before : CallsAsBefore
-calls-as-before m after k r out e =
+pub calls-without-place : CallsWithoutPlace
+calls-without-place m after k r out e =
     (ap (λ (x : WithPast (WithPlace CallResult)). x .result .result) e, ap (λ (x : WithPast (WithPlace CallResult)). x .past) e)
 
-pub copy-as-before : CopyAsBefore
-copy-as-before t after message r e =
+pub copy-without-place : CopyWithoutPlace
+copy-without-place t after message r e =
     (ap (λ (x : WithPast (WithPlace CopyResult)). x .result .result) e, ap (λ (x : WithPast (WithPlace CopyResult)). x .past) e)
 
-pub writer-as-before : WriterAsBefore
-writer-as-before f out after r e = ap (λ (x : WithPlace WriteResult). x .result) e
+pub writer-without-place : WriterWithoutPlace
+writer-without-place f out after r e = ap (λ (x : WithPlace WriteResult). x .result) e
 
-pub reader-as-before : ReaderAsBefore
-reader-as-before updateType m r e = ap (λ (x : WithPlace MessageFields). x .result) e
+pub reader-without-place : ReaderWithoutPlace
+reader-without-place updateType m r e = ap (λ (x : WithPlace MessageFields). x .result) e
