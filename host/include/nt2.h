@@ -91,6 +91,9 @@ typedef struct {
  *       left after a lone value
  * It is 0 for a lent name, which has no length before it, and for a type given as a number. With
  * every other number it is 0.
+ *
+ * With a name and a value (nt2_create, and nt2_encode of an assignment), 9 at 0 is the name's, 10 is
+ * the name's if that is longer than 64 bytes, and all else but 7 is the value's.
  */
 
 /* Number, recipients (bit c for connection c), bytes taken and sent, and the place of a fault. */
