@@ -1,16 +1,12 @@
 //! Answers as enums, with the numbers of the build description.
 
+use crate::number::{
+    ASSIGNMENT_ID, DONE, FULL, IGNORED, INCOMPLETE, KIND, NAME_HELD, NO_SUCH_CONNECTION,
+    NOT_BOOLEAN, NOT_TEXT, ROOM, STATE, TOO_LONG, TYPE, UNKNOWN_ID, UNSOUND,
+};
 use nt2_sys::{Answer, NAME_ROOM};
 use std::error::Error;
 use std::fmt;
-
-/// Number of a call that is done.
-pub(crate) const DONE: u8 = 0;
-/// Number of a message that is taken and changes nothing.
-pub(crate) const IGNORED: u8 = 16;
-
-/// Number of a text that is not UTF-8.
-const NOT_TEXT: u8 = 9;
 
 /// Why a call was refused; for a bad type, Boolean, text or length with its place. The call changed no
 /// memory.
@@ -50,22 +46,22 @@ pub enum Refusal {
 
 impl Refusal {
     /// The refusal with this number, 1 to 14. Those from 7 to 10 need a place, the others have none.
-    pub fn of(number: u8, place: Option<Place>) -> Option<Refusal> {
+    pub(crate) fn of(number: u8, place: Option<Place>) -> Option<Refusal> {
         Some(match number {
-            1 => Refusal::Incomplete,
-            2 => Refusal::NoSuchConnection,
-            3 => Refusal::State,
-            4 => Refusal::Kind,
-            5 => Refusal::AssignmentId,
-            6 => Refusal::UnknownId,
-            7 => Refusal::Type(place?),
-            8 => Refusal::Boolean(place?),
+            INCOMPLETE => Refusal::Incomplete,
+            NO_SUCH_CONNECTION => Refusal::NoSuchConnection,
+            STATE => Refusal::State,
+            KIND => Refusal::Kind,
+            ASSIGNMENT_ID => Refusal::AssignmentId,
+            UNKNOWN_ID => Refusal::UnknownId,
+            TYPE => Refusal::Type(place?),
+            NOT_BOOLEAN => Refusal::Boolean(place?),
             NOT_TEXT => Refusal::Text(place?),
-            10 => Refusal::TooLong(place?),
-            11 => Refusal::Full,
-            12 => Refusal::Room,
-            13 => Refusal::NameHeld,
-            14 => Refusal::Unsound,
+            TOO_LONG => Refusal::TooLong(place?),
+            FULL => Refusal::Full,
+            ROOM => Refusal::Room,
+            NAME_HELD => Refusal::NameHeld,
+            UNSOUND => Refusal::Unsound,
             _ => return None,
         })
     }
@@ -88,24 +84,24 @@ impl Refusal {
 
     fn number_and_words(self) -> (u8, &'static str) {
         match self {
-            Refusal::Incomplete => (1, "message or value is not complete"),
-            Refusal::NoSuchConnection => (2, "connection number is above 15"),
-            Refusal::State => (3, "connection state does not allow this"),
-            Refusal::Kind => (4, "message kind is unknown, or not for this end"),
-            Refusal::AssignmentId => (5, "assignment ID is not the one allowed"),
-            Refusal::UnknownId => (6, "ID is not in the table"),
-            Refusal::Type(_) => (7, "type is unknown"),
-            Refusal::Boolean(_) => (8, "Boolean byte is not 0 or 1"),
+            Refusal::Incomplete => (INCOMPLETE, "message or value is not complete"),
+            Refusal::NoSuchConnection => (NO_SUCH_CONNECTION, "connection number is above 15"),
+            Refusal::State => (STATE, "connection state does not allow this"),
+            Refusal::Kind => (KIND, "message kind is unknown, or not for this end"),
+            Refusal::AssignmentId => (ASSIGNMENT_ID, "assignment ID is not the one allowed"),
+            Refusal::UnknownId => (UNKNOWN_ID, "ID is not in the table"),
+            Refusal::Type(_) => (TYPE, "type is unknown"),
+            Refusal::Boolean(_) => (NOT_BOOLEAN, "Boolean byte is not 0 or 1"),
             Refusal::Text(_) => (NOT_TEXT, "text is not UTF-8"),
-            Refusal::TooLong(Place::Message(_)) => (10, "name or value is too long"),
-            Refusal::TooLong(Place::Name(_)) => (10, "name is too long"),
+            Refusal::TooLong(Place::Message(_)) => (TOO_LONG, "name or value is too long"),
+            Refusal::TooLong(Place::Name(_)) => (TOO_LONG, "name is too long"),
             Refusal::TooLong(Place::Value(_)) => {
-                (10, "value is too long, or bytes are left after it")
+                (TOO_LONG, "value is too long, or bytes are left after it")
             }
-            Refusal::Full => (11, "table is full"),
-            Refusal::Room => (12, "output is too short"),
-            Refusal::NameHeld => (13, "name is already there"),
-            Refusal::Unsound => (14, "lent table is unsound or too small"),
+            Refusal::Full => (FULL, "table is full"),
+            Refusal::Room => (ROOM, "output is too short"),
+            Refusal::NameHeld => (NAME_HELD, "name is already there"),
+            Refusal::Unsound => (UNSOUND, "lent table is unsound or too small"),
         }
     }
 }
@@ -124,6 +120,7 @@ impl Error for Refusal {}
 
 /// A byte of what was given to a call, counted from 0.
 #[derive(Clone, Copy, Debug, PartialEq, Eq, Hash)]
+#[non_exhaustive]
 pub enum Place {
     /// A byte of the message.
     Message(usize),
@@ -134,6 +131,13 @@ pub enum Place {
 }
 
 impl Place {
+    /// The byte, counted from 0 at the start of the message, name or value.
+    pub fn byte(self) -> usize {
+        match self {
+            Place::Message(byte) | Place::Name(byte) | Place::Value(byte) => byte,
+        }
+    }
+
     /// Where a call that is given a name and a value found a fault. The name is judged first, and no
     /// text starts at a value's first byte.
     pub(crate) fn in_name_or_value(name: &[u8], answer: Answer) -> Place {
@@ -145,11 +149,12 @@ impl Place {
 
 impl fmt::Display for Place {
     fn fmt(&self, f: &mut fmt::Formatter<'_>) -> fmt::Result {
-        match self {
-            Place::Message(place) => write!(f, "byte {place} of the message"),
-            Place::Name(place) => write!(f, "byte {place} of the name"),
-            Place::Value(place) => write!(f, "byte {place} of the value"),
-        }
+        let given = match self {
+            Place::Message(_) => "message",
+            Place::Name(_) => "name",
+            Place::Value(_) => "value",
+        };
+        write!(f, "byte {} of the {given}", self.byte())
     }
 }
 

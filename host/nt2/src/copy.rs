@@ -3,6 +3,7 @@
 use crate::answers::{Copied, Place, Refusal, Scalar, is_done};
 use crate::lent;
 use crate::memory::{Entry, Memory};
+use crate::number::DONE;
 
 /// A copy of a server's table, kept from the server's bytes.
 #[derive(Clone)]
@@ -21,7 +22,7 @@ impl CopyTable {
     /// Starts afresh, without entries.
     pub fn fresh(&mut self) {
         let answer = lent::copy_fresh(self.memory.lend());
-        assert_eq!(answer.number, 0, "an owned table is large enough");
+        assert_eq!(answer.number, DONE, "an owned table is large enough");
     }
 
     /// Takes the first message of a server's bytes.

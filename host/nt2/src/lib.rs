@@ -31,6 +31,7 @@
 //! let refused = ServerTable::new().create(b"lots", Type::BooleanArray, &[2, 1, 7], &mut []);
 //! let refusal = refused.unwrap_err();
 //! assert_eq!(refusal, Refusal::Boolean(Place::Value(2)));
+//! assert_eq!(refusal.place().map(Place::byte), Some(2));
 //! assert_eq!(refusal.to_string(), "Boolean byte is not 0 or 1, at byte 2 of the value");
 //! ```
 
@@ -39,6 +40,7 @@ mod copy;
 pub mod lent;
 mod memory;
 mod message;
+mod number;
 mod server;
 
 pub use answers::{Copied, Place, Received, Recipients, Refusal, Scalar, Sent, Written};

@@ -4,6 +4,7 @@ use crate::answers::{Place, Received, Recipients, Refusal, Scalar, Sent, Written
 use crate::lent;
 use crate::memory::{Entry, Memory};
 use crate::message::Type;
+use crate::number::DONE;
 use nt2_sys::{Answer, CONNECTIONS};
 
 /// A connection's state.
@@ -32,7 +33,7 @@ impl ServerTable {
     /// Starts afresh: no entries, all connections closed.
     pub fn fresh(&mut self) {
         let answer = lent::fresh(self.memory.lend(), &mut self.marks);
-        assert_eq!(answer.number, 0, "an owned table is large enough");
+        assert_eq!(answer.number, DONE, "an owned table is large enough");
     }
 
     /// Opens a closed connection.
