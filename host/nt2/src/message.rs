@@ -65,21 +65,19 @@ pub enum Message<'a> {
 /// Writes a message at the start of the output and answers its length. A fault's place is one of the
 /// name or of the value.
 pub fn encode(message: &Message<'_>, out: &mut [u8]) -> Result<usize, Refusal> {
-    let answer = match *message {
-        Message::KeepAlive => lent::encode(0x00, 0, &[], 0, 0, 0, &[], out),
-        Message::Hello { revision } => lent::encode(0x01, revision, &[], 0, 0, 0, &[], out),
-        Message::Unsupported { revision } => lent::encode(0x02, revision, &[], 0, 0, 0, &[], out),
-        Message::HelloComplete => lent::encode(0x03, 0, &[], 0, 0, 0, &[], out),
+    let none: &[u8] = &[];
+    let mut short = |kind, revision| (none, lent::encode(kind, revision, none, 0, 0, 0, none, out));
+    let (name, answer) = match *message {
+        Message::KeepAlive => short(0x00, 0),
+        Message::Hello { revision } => short(0x01, revision),
+        Message::Unsupported { revision } => short(0x02, revision),
+        Message::HelloComplete => short(0x03, 0),
         Message::Assignment { name, value_type, id, number, value } => {
-            lent::encode(0x10, 0, name, value_type.code(), id, number, value, out)
+            (name, lent::encode(0x10, 0, name, value_type.code(), id, number, value, out))
         }
         Message::Update { value_type, id, number, value } => {
-            lent::encode(0x11, 0, &[], value_type.code(), id, number, value, out)
+            (none, lent::encode(0x11, 0, none, value_type.code(), id, number, value, out))
         }
-    };
-    let name = match *message {
-        Message::Assignment { name, .. } => name,
-        _ => &[],
     };
     is_done(answer.number, Some(Place::in_name_or_value(name, answer)))?;
     Ok(answer.sent)
@@ -99,8 +97,7 @@ pub fn decode(bytes: &[u8], update_type: Type) -> Result<(Message<'_>, usize), R
         0x03 => Message::HelloComplete,
         0x10 => {
             let name = &bytes[3..3 + fields.name_length];
-            let unknown = Refusal::Type(Place::Message(3 + name.len()));
-            let value_type = Type::of(fields.type_code).ok_or(unknown)?;
+            let value_type = Type::of(fields.type_code).expect("a type of the build description");
             Message::Assignment { name, value_type, id, number, value }
         }
         _ => Message::Update { value_type: update_type, id, number, value },
