@@ -404,8 +404,11 @@ fn check_step<I: Implementation>(
     };
     // A step has no place of its own to compare with.
     let expected = expected_answer(result, answer.place)?;
-    if answer != expected || !outcome.keeps_form() {
+    if answer != expected {
         return Err(format!("{call:?} answers {answer:?}, not {expected:?}"));
+    }
+    if !outcome.keeps_place() {
+        return Err(format!("{call:?} answers {answer:?}: a place with a number that has none"));
     }
     let bytes = &out.lent()[..answer.sent];
     let same_output = match sent {

@@ -184,6 +184,11 @@ impl Outcome {
         }
     }
 
+    /// Whether there is no place above 0, or the number can have one.
+    pub fn keeps_place(&self) -> bool {
+        self.place() == 0 || PLACED.contains(&self.number())
+    }
+
     /// Whether a refusal, or a message ignored, says that nothing came of it, and whether only a
     /// refusal that can have a place has one.
     pub fn keeps_form(&self) -> bool {
@@ -196,7 +201,7 @@ impl Outcome {
             Outcome::Copied(c) => !refused || c == Copied { number, place, ..Copied::default() },
         };
         let known = refused || matches!(number, 0 | 16);
-        known && (number == 0 || nothing) && (place == 0 || PLACED.contains(&number))
+        known && (number == 0 || nothing) && self.keeps_place()
     }
 }
 
