@@ -7,12 +7,56 @@ use crate::memory::{Guarded, Memory};
 use nt2_sys::LONGEST_HELLO_ANSWER;
 use std::collections::BTreeSet;
 use std::marker::PhantomData;
+use std::ops::RangeInclusive;
 use std::sync::atomic::{AtomicBool, AtomicU64, Ordering};
 use std::thread;
 use std::time::{Duration, Instant};
 
 /// Calls of one series, which begins with a table of its own.
 const STEPS: usize = 400;
+
+/// The numbers that a call can answer with, and of those with a place the ones that it can have at 0
+/// and above 0.
+struct Answers {
+    numbers: &'static [usize],
+    at_0: &'static [usize],
+    above_0: &'static [usize],
+}
+
+impl Answers {
+    const fn without_place(numbers: &'static [usize]) -> Self {
+        Answers { numbers, at_0: &[], above_0: &[] }
+    }
+}
+
+/// By call, as in [`Call::NAMES`]. In a message no place is 0, but that of a type given for it. Of a
+/// name alone every place is 0, of a value alone that of a text is not.
+const ANSWERS: [Answers; 12] = [
+    Answers::without_place(&[0, 14]),
+    Answers::without_place(&[0, 2, 3, 14]),
+    Answers::without_place(&[0, 2, 3, 14]),
+    Answers {
+        numbers: &[0, 1, 2, 3, 4, 5, 6, 7, 8, 9, 10, 11, 12, 14, 16],
+        at_0: &[],
+        above_0: &[7, 8, 9, 10],
+    },
+    Answers {
+        numbers: &[0, 1, 7, 8, 9, 10, 11, 12, 13, 14],
+        at_0: &[7, 8, 9, 10],
+        above_0: &[8, 9, 10],
+    },
+    Answers { numbers: &[0, 1, 6, 8, 9, 10, 12, 14, 16], at_0: &[8, 10], above_0: &[8, 9, 10] },
+    Answers::without_place(&[0, 6, 14]),
+    Answers { numbers: &[0, 1, 4, 7, 8, 9, 10, 12], at_0: &[7, 8, 9, 10], above_0: &[8, 9, 10] },
+    Answers { numbers: &[0, 1, 4, 7, 8, 9, 10], at_0: &[7], above_0: &[7, 8, 9, 10] },
+    Answers::without_place(&[0, 14]),
+    Answers {
+        numbers: &[0, 1, 4, 5, 6, 7, 8, 9, 10, 11, 13, 14, 16],
+        at_0: &[],
+        above_0: &[7, 8, 9, 10],
+    },
+    Answers::without_place(&[0, 6, 14]),
+];
 
 /// Comparisons by call and number, and the places of faults that were met with each.
 #[derive(Clone, Debug)]
@@ -44,29 +88,31 @@ impl Report {
         }
     }
 
-    /// Numbers that a call can answer with and that were not met.
+    /// Answers that a call can give and that were not met: numbers, and places at 0 and above 0.
     pub fn missed(&self) -> Vec<String> {
-        const ANSWERS: [&[usize]; 12] = [
-            &[0, 14],
-            &[0, 2, 3, 14],
-            &[0, 2, 3, 14],
-            &[0, 1, 2, 3, 4, 5, 6, 7, 8, 9, 10, 11, 12, 14, 16],
-            &[0, 1, 7, 8, 9, 10, 11, 12, 13, 14],
-            &[0, 1, 6, 8, 9, 10, 12, 14, 16],
-            &[0, 6, 14],
-            &[0, 1, 4, 7, 8, 9, 10, 12],
-            &[0, 1, 4, 7, 8, 9, 10],
-            &[0, 14],
-            &[0, 1, 4, 5, 6, 7, 8, 9, 10, 11, 13, 14, 16],
-            &[0, 6, 14],
-        ];
-        let calls = Call::NAMES.iter().zip(ANSWERS).zip(&self.numbers);
+        let calls = Call::NAMES.iter().zip(&ANSWERS).enumerate();
         calls
-            .flat_map(|((name, answers), counts)| {
-                let missed = answers.iter().filter(|&&n| counts[n] == 0);
-                missed.map(move |n| format!("{name} {n}"))
+            .flat_map(|(call, (name, answers))| {
+                let missed = self.missed_by(call, answers).into_iter();
+                missed.map(move |what| format!("{name} {what}"))
             })
             .collect()
+    }
+
+    fn missed_by(&self, call: usize, answers: &Answers) -> Vec<String> {
+        let not_met = |number: &&usize| self.numbers[call][**number] == 0;
+        let not_at_0 = |number: &&usize| self.places(call, **number, 0..=0) == 0;
+        let not_above_0 = |number: &&usize| self.places(call, **number, 1..=usize::MAX) == 0;
+        let numbers = answers.numbers.iter().filter(not_met).map(|n| n.to_string());
+        let at_0 = answers.at_0.iter().filter(not_at_0).map(|n| format!("{n} at 0"));
+        let above_0 = answers.above_0.iter().filter(not_above_0).map(|n| format!("{n} above 0"));
+        numbers.chain(at_0).chain(above_0).collect()
+    }
+
+    /// At how many places of a range a call answered with a number.
+    fn places(&self, call: usize, number: usize, range: RangeInclusive<usize>) -> usize {
+        let key = |place: &usize| (call, number, *place);
+        self.places.range(key(range.start())..=key(range.end())).count()
     }
 
     /// A line for each call: how often it answered with which number, and at how many places.
@@ -84,7 +130,7 @@ impl Report {
 
     /// At how many places a call answered with a number, in words.
     fn at(&self, call: usize, number: usize) -> String {
-        match self.places.range((call, number, 0)..=(call, number, usize::MAX)).count() {
+        match self.places(call, number, 0..=usize::MAX) {
             0 => String::new(),
             1 => " at 1 place".into(),
             count => format!(" at {count} places"),
@@ -266,4 +312,28 @@ pub fn compare<L: Implementation, R: Implementation>(bounds: Bounds) -> Result<R
         }
         Ok(total)
     })
+}
+
+#[cfg(test)]
+mod tests {
+    use super::*;
+    use crate::call::Hex;
+    use nt2_sys::Answer;
+
+    fn met(report: &mut Report, number: u8, place: usize) {
+        let call = Call::Write { id: 0, value: Hex(Vec::new()) };
+        report.count(&call, Outcome::Answer(Answer { number, place, ..Answer::default() }));
+    }
+
+    #[test]
+    fn places_are_missed() {
+        let mut report = Report::new();
+        [0, 1, 6, 12, 14, 16].iter().for_each(|&number| met(&mut report, number, 0));
+        [(8, 0), (8, 3), (9, 2), (10, 0)].iter().for_each(|&(n, place)| met(&mut report, n, place));
+        let missed = report.missed();
+        let of_write: Vec<_> =
+            missed.iter().filter(|missed| missed.starts_with("write ")).collect();
+        assert_eq!(of_write, ["write 10 above 0"]);
+        assert!(missed.contains(&"create 9 at 0".into()));
+    }
 }
