@@ -1,4 +1,5 @@
-//! Wrong places of faults, which the acceptance cases and the differential test have to find.
+//! Wrong places of faults. The differential test has to find each in every call that can have it, the
+//! acceptance cases each in some calls. With no wrong place neither finds a difference.
 
 use nt2_sys::{Answer, Copied, Fields, LentTable, Scalar};
 use nt2_tests::acceptance::{FILES, folder, replay};
@@ -9,7 +10,7 @@ use std::time::Duration;
 const BOUNDS: Bounds =
     Bounds { seed: 2013, comparisons: 100_000, time: Duration::from_secs(60), threads: 2 };
 
-/// The reference, of which one call answers a wrong place.
+/// The reference, of which one call, or every call, answers a wrong place.
 struct Misplaced<const CALL: usize, const WRONG: usize>;
 
 const RECEIVE: usize = 0;
@@ -18,6 +19,10 @@ const WRITE: usize = 2;
 const ENCODE: usize = 3;
 const DECODE: usize = 4;
 const COPY_RECEIVE: usize = 5;
+const EVERY_CALL: usize = 6;
+
+/// The calls as a failure shows them.
+const SHOWN: [&str; 6] = ["Receive", "Create", "Write", "Encode", "Decode", "CopyReceive"];
 
 const TEXT_AT_ITS_LENGTH: usize = 0;
 const TEXT_AT_ITS_BAD_BYTE: usize = 1;
@@ -29,6 +34,7 @@ const LAST_BAD_BOOLEAN: usize = 6;
 const TYPE_AT_THE_START: usize = 7;
 const GIVEN_TYPE_WITH_A_PLACE: usize = 8;
 const MISSING_FIELD_WITH_A_PLACE: usize = 9;
+const NONE: usize = 10;
 
 /// The number and place of a fault, and where it was found: the bytes, and where their value starts.
 struct Found<'a> {
@@ -79,7 +85,7 @@ impl<'a> Found<'a> {
 
 impl<const CALL: usize, const WRONG: usize> Misplaced<CALL, WRONG> {
     fn place(call: usize, found: &Found<'_>) -> usize {
-        if call == CALL { found.wrong_place(WRONG) } else { found.place }
+        if CALL == call || CALL == EVERY_CALL { found.wrong_place(WRONG) } else { found.place }
     }
 }
 
@@ -169,10 +175,11 @@ impl<const CALL: usize, const WRONG: usize> Implementation for Misplaced<CALL, W
     }
 }
 
-/// The differential test finds it.
+/// The differential test finds it, in this call.
 fn found<const CALL: usize, const WRONG: usize>() {
-    let compared = compare::<Reference, Misplaced<CALL, WRONG>>(BOUNDS);
-    assert!(compared.is_err(), "call {CALL}, wrong place {WRONG}");
+    let failure = compare::<Reference, Misplaced<CALL, WRONG>>(BOUNDS).err().unwrap_or_default();
+    let differs = format!("the answers differ\n  {} ", SHOWN[CALL]);
+    assert!(failure.contains(&differs), "{}, wrong place {WRONG}: {failure}", SHOWN[CALL]);
 }
 
 fn found_in_every_call<const WRONG: usize>() {
@@ -208,22 +215,68 @@ fn differential_test_finds_wrong_places() {
     found_in_every_call::<MISSING_FIELD_WITH_A_PLACE>();
 }
 
-/// So many acceptance cases fail.
-fn failed_cases<const CALL: usize>() -> usize {
-    let failed = |file| {
-        let replayed =
-            replay::<Misplaced<CALL, TOO_LONG_BEHIND_THE_LENGTH>>(&folder(), file).unwrap();
-        replayed.failures.len()
-    };
-    FILES.iter().map(|(file, _)| failed(file)).sum()
+#[test]
+fn differential_test_finds_no_other_difference() {
+    let report = compare::<Reference, Misplaced<EVERY_CALL, NONE>>(BOUNDS).unwrap();
+    assert_eq!(report.missed(), [""; 0]);
+}
+
+/// Whether an acceptance case fails.
+fn a_case_fails<const CALL: usize, const WRONG: usize>() -> bool {
+    FILES.iter().any(|(file, _)| {
+        let replayed = replay::<Misplaced<CALL, WRONG>>(&folder(), file).unwrap();
+        !replayed.failures.is_empty()
+    })
+}
+
+fn cases_find<const CALL: usize, const WRONG: usize>() {
+    assert!(a_case_fails::<CALL, WRONG>(), "{}, wrong place {WRONG}", SHOWN[CALL]);
+}
+
+fn cases_find_in_every_call<const WRONG: usize>() {
+    cases_find_in_messages::<WRONG>();
+    cases_find::<CREATE, WRONG>();
+    cases_find::<WRITE, WRONG>();
+    cases_find::<ENCODE, WRONG>();
+}
+
+fn cases_find_in_messages<const WRONG: usize>() {
+    cases_find::<RECEIVE, WRONG>();
+    cases_find::<DECODE, WRONG>();
+    cases_find::<COPY_RECEIVE, WRONG>();
 }
 
 #[test]
 fn acceptance_cases_find_wrong_places() {
-    assert!(failed_cases::<RECEIVE>() > 0);
-    assert!(failed_cases::<CREATE>() > 0);
-    assert!(failed_cases::<WRITE>() > 0);
-    assert!(failed_cases::<ENCODE>() > 0);
-    assert!(failed_cases::<DECODE>() > 0);
-    assert!(failed_cases::<COPY_RECEIVE>() > 0);
+    cases_find_in_messages::<TEXT_AT_ITS_LENGTH>();
+    cases_find::<CREATE, TEXT_AT_ITS_LENGTH>();
+    cases_find_in_messages::<TEXT_AT_ITS_BAD_BYTE>();
+    cases_find::<CREATE, TEXT_AT_ITS_BAD_BYTE>();
+    cases_find_in_every_call::<TOO_LONG_BEHIND_THE_LENGTH>();
+    cases_find_in_every_call::<ELEMENT_AT_ITS_ARRAY>();
+    cases_find_in_messages::<COUNTED_FROM_THE_VALUE>();
+    cases_find::<CREATE, LAST_BYTE_LEFT>();
+    cases_find::<WRITE, LAST_BYTE_LEFT>();
+    cases_find::<ENCODE, LAST_BYTE_LEFT>();
+    cases_find::<RECEIVE, LAST_BAD_BOOLEAN>();
+    cases_find_in_messages::<TYPE_AT_THE_START>();
+    cases_find::<CREATE, GIVEN_TYPE_WITH_A_PLACE>();
+    cases_find::<ENCODE, GIVEN_TYPE_WITH_A_PLACE>();
+    cases_find_in_every_call::<MISSING_FIELD_WITH_A_PLACE>();
+}
+
+#[test]
+fn acceptance_cases_find_no_other_difference() {
+    assert!(!a_case_fails::<EVERY_CALL, NONE>());
+}
+
+/// The steps of a run tell no place, so only one with a number that has none is found.
+#[test]
+fn runs_find_a_place_with_a_number_that_has_none() {
+    type Wrong = Misplaced<RECEIVE, MISSING_FIELD_WITH_A_PLACE>;
+    let failures = replay::<Wrong>(&folder(), "runs.json").unwrap().failures;
+    assert!(!failures.is_empty());
+    for failure in failures {
+        assert!(failure.ends_with("a place with a number that has none"), "{failure}");
+    }
 }
