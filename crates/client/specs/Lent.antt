@@ -37,16 +37,16 @@ storedCopied taken = record { number = done; revision = 0; taken = taken; place 
 -- the decision on a message m
 abbrev pub copyVerdictOf : List ℕ → CopyDecision → CopyVerdict
 copyVerdictOf m (D.Refuse fault) = refuse fault
-copyVerdictOf m (D.Ignore taken revision) = ignore taken revision
-copyVerdictOf m (D.StoreNew nameLength type number valueLength) =
+copyVerdictOf m (D.Ignore revision taken) = ignore taken revision
+copyVerdictOf m (D.StoreNew type number nameLength valueLength) =
     storeNew (entryIn nameLength type number valueLength m) (assignmentLength nameLength valueLength)
 copyVerdictOf m (D.StoreUpdate id number valueLength) = storeUpdate id number (updateValueIn valueLength m) (updateLength valueLength)
 
 -- what performing relies on: name and value are in the message, and a copy of so many entries has the place
 abbrev pub Copyable : (count : ℕ) → List ℕ → CopyDecision → Type 0
 Copyable count m (D.Refuse fault) = Unit {0}
-Copyable count m (D.Ignore taken revision) = Unit {0}
-Copyable count m (D.StoreNew nameLength type number valueLength) =
+Copyable count m (D.Ignore revision taken) = Unit {0}
+Copyable count m (D.StoreNew type number nameLength valueLength) =
     (count < maxEntries) × (assignmentLength nameLength valueLength ≤ length m) × (nameLength ≤ maxNameLength) × (valueLength ≤ maxValueSize)
 Copyable count m (D.StoreUpdate id number valueLength) = (id < count) × (updateLength valueLength ≤ length m) × (valueLength ≤ maxValueSize)
 

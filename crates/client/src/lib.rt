@@ -94,17 +94,17 @@ fn stored(taken: usize) -> Copied
 
 // ---- what a message comes to
 
-// A verdict on a message. Names and values stay in the message.
+// A verdict on a message. Names and values stay in the message. Small fields stand before lengths (docs/DECISIONS.md, Speed).
 pub enum CopyDecision {
     Refuse(Fault),
     Ignore {
-        taken: usize,
         revision: u16,
+        taken: usize,
     },
     StoreNew {
-        name_length: usize,
         type_code: u8,
         number: u16,
+        name_length: usize,
         value_length: usize,
     },
     StoreUpdate {

@@ -19,7 +19,7 @@ data Small (d : Decoded) : Type 0 where
 
 assignment-small : (allowed : ℕ → Bool) (m : List ℕ) (a : AssignmentRead) → parseAssignment allowed m ≡ a → Small (ofAssignment a)
 assignment-small allowed m (A.Refused fault) e = small (omega arith)
-assignment-small allowed m (A.Assignment n t id q v) e = small (omega (arith, assignment-fits allowed m n t id q v e))
+assignment-small allowed m (A.Assignment t id q n v) e = small (omega (arith, assignment-fits allowed m n t id q v e))
 
 update-small : (held : ℕ → Bool) (typeOf : ℕ → ℕ) (m : List ℕ) (u : UpdateRead) → parseUpdate held typeOf m ≡ u → Small (ofUpdate u)
 update-small held typeOf m (U.Refused fault) e = small (omega arith)

@@ -44,8 +44,8 @@ fieldsOf D.KeepAlive = loneFields D.KeepAlive keepAliveKind 0
 fieldsOf (D.Hello revision) = loneFields (D.Hello revision) helloKind revision
 fieldsOf (D.Unsupported revision) = loneFields (D.Unsupported revision) unsupportedKind revision
 fieldsOf D.HelloComplete = loneFields D.HelloComplete helloCompleteKind 0
-fieldsOf (D.Assignment nameLength type id number valueLength) =
-    let d = D.Assignment nameLength type id number valueLength in
+fieldsOf (D.Assignment type id number nameLength valueLength) =
+    let d = D.Assignment type id number nameLength valueLength in
     fields (numberOf d) assignmentKind type 0 id number (takenOf d) nameLength valueLength
 fieldsOf (D.Update id number valueLength) =
     let d = D.Update id number valueLength in

@@ -43,7 +43,7 @@ hello-within c mark m =
 assignment-within : (limit : ℕ) (es : List Entry) (m : List ℕ) (r : AssignmentRead) → AssignmentIs (idAllowed (Only 0xFFFF)) m r → Within (length m) (judgeAssignment limit es m r)
 unfolding judgeAssignment
 assignment-within limit es m (A.Refused fault) f = refused
-assignment-within limit es m (A.Assignment n t id q v) (AssignmentIs.taken a h w f) =
+assignment-within limit es m (A.Assignment t id q n v) (AssignmentIs.taken a h w f) =
     by-test (Within (length m)) _ _ _ (λ _. ignored h) (λ _. by-test (Within (length m)) _ _ _ (λ _. new h) (λ _. refused))
 
 update-within : (c : ℕ) (es : List Entry) (m : List ℕ) (held : ℕ → Bool) (typeOf : ℕ → ℕ) (r : UpdateRead) → UpdateIs held typeOf m r → Within (length m) (judgeUpdate c es m r)

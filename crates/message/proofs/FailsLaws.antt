@@ -43,7 +43,7 @@ use Rattle.message.specs.declared.Decoded.the-variants as D
 
 pub data AssignmentRefuses (m : List ℕ) : AssignmentRead → Type 0 where
   refused : {fault : Fault} → AssignmentFailsAt m (fault .number) (fault .place) → AssignmentRefuses m (A.Refused fault)
-  taken : {n t id q v : ℕ} → AssignmentRefuses m (A.Assignment n t id q v)
+  taken : {n t id q v : ℕ} → AssignmentRefuses m (A.Assignment t id q n v)
 
 module _ (allowed : ℕ → Bool) (m : List ℕ) where
   P : AssignmentRead → Type 0
@@ -54,14 +54,14 @@ module _ (allowed : ℕ → Bool) (m : List ℕ) where
   at number place h = AssignmentRefuses.refused h
 
   value-part : (id q : ℕ) → NameStands m → knownType (getD m (typeStart m) 0) ≡ true → typeStart m + 5 ≤ length m
-      → P (andThen A.Refused (parseValueAt (getD m (typeStart m) 0) (typeStart m + 5) m) (λ v. A.Assignment (nameLengthIn m) (getD m (typeStart m) 0) id q v))
+      → P (andThen A.Refused (parseValueAt (getD m (typeStart m) 0) (typeStart m + 5) m) (λ v. A.Assignment (getD m (typeStart m) 0) id q (nameLengthIn m) v))
   unfolding P parseValueAt
   value-part id q name known there =
       let start : typeStart m + 5 ≡ valueStart m = omega arith in
       rw start (go _ (value-refuses (getD m (typeStart m) 0) (drop (valueStart m) m)))
     where
       go : (r : Parsed) → Refuses (ValueFailsAt (getD m (typeStart m) 0) (drop (valueStart m) m)) r
-          → P (andThen A.Refused (movedBy (valueStart m) r) (λ v. A.Assignment (nameLengthIn m) (getD m (typeStart m) 0) id q v))
+          → P (andThen A.Refused (movedBy (valueStart m) r) (λ v. A.Assignment (getD m (typeStart m) 0) id q (nameLengthIn m) v))
       go (Refused fault) (Refuses.refused h) = AssignmentRefuses.refused (AssignmentFailsAt.value name known (omega arith) h)
       go (Taken v) h = AssignmentRefuses.taken
 
@@ -167,7 +167,7 @@ module _ (t : ℕ) (m : List ℕ) where
   of-assignment : getD m 0 0 ≡ assignmentKind → (a : AssignmentRead) → AssignmentRefuses m a → Tells (ofAssignment a)
   unfolding Tells
   of-assignment k (A.Refused fault) (AssignmentRefuses.refused h) = told _ fault (λ _. ReadingFailsAt.in-message (MessageFailsAt.assignment k h))
-  of-assignment k (A.Assignment n type id number v) h = untold _ 0 (λ tells. omega arith)
+  of-assignment k (A.Assignment type id number n v) h = untold _ 0 (λ tells. omega arith)
 
   of-update : getD m 0 0 ≡ updateKind → (u : UpdateRead) → UpdateRefuses (idAllowed Any) (λ _. t) m u → Tells (ofUpdate u)
   unfolding Tells pick

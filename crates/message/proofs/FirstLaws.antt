@@ -20,14 +20,14 @@ use Rattle.message.proofs.TakenLaws.{part-length, AssignmentIs, assignm
 pub data AssignmentFirst (allowed : ℕ → Bool) (m : List ℕ) : AssignmentRead → Type 0 where
   refused : {fault : Fault} → AssignmentFirst allowed m (A.Refused fault)
   taken : {n t id q v : ℕ} → allowed id ≡ true → WellFormed (entryIn n t q v m) → BeginsWith m (assignment id (entryIn n t q v m))
-      → 8 + n + v ≡ length (assignmentBytes id (entryIn n t q v m)) → AssignmentFirst allowed m (A.Assignment n t id q v)
+      → 8 + n + v ≡ length (assignmentBytes id (entryIn n t q v m)) → AssignmentFirst allowed m (A.Assignment t id q n v)
 
 pub assignment-first : (allowed : ℕ → Bool) (m : List ℕ) → Bytes m → getD m 0 0 ≡ assignmentKind → AssignmentFirst allowed m (parseAssignment allowed m)
 assignment-first allowed m b k = go (parseAssignment allowed m) (assignment-is allowed m)
   where
     go : (r : AssignmentRead) → AssignmentIs allowed m r → AssignmentFirst allowed m r
     go (A.Refused fault) f = AssignmentFirst.refused
-    go (A.Assignment n t id q v) (AssignmentIs.taken a l w f) =
+    go (A.Assignment t id q n v) (AssignmentIs.taken a l w f) =
         AssignmentFirst.taken {n = n} {v = v} a (w q) (assignment-stands m n t id q v b k f l)
         (omega (arith, length-assignment id (entryIn n t q v m), part-length 3 n m (omega arith), part-length (8 + n) v m l))
 

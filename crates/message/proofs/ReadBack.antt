@@ -81,7 +81,7 @@ module _ (id : ℕ) (e : Entry) (rest : List ℕ) where
 -- the fields past a name that ends at a place
 after-name-back : (allowed : ℕ → Bool) (at : ℕ) (m : List ℕ) (t id number : ℕ) (value rest : List ℕ) → allowed id ≡ true → IsValue t value
     → at + 5 ≤ length m → drop at m ≡ afterName t id number (value ++ rest)
-    → parseAfterName allowed at m ≡ A.Assignment (at - 3) t id number (length value)
+    → parseAfterName allowed at m ≡ A.Assignment t id number (at - 3) (length value)
 unfolding parseAfterName parseBehindId parseValueAt afterName encode16 pick
 after-name-back allowed at m t id number value rest a w h e =
     let type-is : getD m at 0 ≡ t = ap (λ (k : ℕ). getD m k 0) (sym (add-zero at)) ∙ sym (getD-drop at m 0 0) ∙ ap (λ (l : List ℕ). getD l 0 0) e in
@@ -108,7 +108,7 @@ parse-name-back id e rest w =
     rw (behind-kind id e rest, text-back 66 (e .name) (afterName (e .type) id (e .number) (e .value ++ rest)) (omega (arith, w .name-fits)) (w .name-text))
 
 pub assignment-back : (allowed : ℕ → Bool) (id : ℕ) (e : Entry) (rest : List ℕ) → allowed id ≡ true → WellFormed e
-    → parseAssignment allowed (assignmentBytes id e ++ rest) ≡ A.Assignment (length (e .name)) (e .type) id (e .number) (length (e .value))
+    → parseAssignment allowed (assignmentBytes id e ++ rest) ≡ A.Assignment (e .type) id (e .number) (length (e .name)) (length (e .value))
 unfolding parseAssignment
 assignment-back allowed id e rest a w =
     let place : 1 + (2 + length (e .name)) ≡ 3 + length (e .name) = omega arith in
@@ -177,7 +177,7 @@ unfolding updateBytes
 by-kind-update t id number value rest = kind-update t _
 
 message-assignment : (t id : ℕ) (e : Entry) (rest : List ℕ) → WellFormed e
-    → parseMessage t (assignmentBytes id e ++ rest) ≡ D.Assignment (length (e .name)) (e .type) id (e .number) (length (e .value))
+    → parseMessage t (assignmentBytes id e ++ rest) ≡ D.Assignment (e .type) id (e .number) (length (e .name)) (length (e .value))
 message-assignment t id e rest w = by-kind-assignment t id e rest ∙ ap ofAssignment (assignment-back (idAllowed Any) id e rest refl w)
 
 message-update : (t id number : ℕ) (value rest : List ℕ) → IsValue t value
@@ -185,7 +185,7 @@ message-update : (t id number : ℕ) (value rest : List ℕ) → IsValue t value
 message-update t id number value rest w = by-kind-update t id number value rest ∙ ap ofUpdate (update-back (idAllowed Any) (λ _. t) id number value rest refl w)
 
 assignment-fields : (id : ℕ) (e : Entry) (rest : List ℕ)
-    → contents (assignmentBytes id e ++ rest) (D.Assignment (length (e .name)) (e .type) id (e .number) (length (e .value))) ≡ some (assignment id e)
+    → contents (assignmentBytes id e ++ rest) (D.Assignment (e .type) id (e .number) (length (e .name)) (length (e .value))) ≡ some (assignment id e)
 assignment-fields id e rest = rw (name-back id e rest, value-back-at id e rest)
 
 update-fields : (id number : ℕ) (value rest : List ℕ)

@@ -30,7 +30,7 @@ module _ (t : ℕ) (m : List ℕ) where
   of-assignment : getD m 0 0 ≡ assignmentKind → (a : AssignmentRead) → AssignmentIs (idAllowed Any) m a → AssignmentRefused a → Is (ofAssignment a)
   unfolding Is layout
   of-assignment k (A.Refused fault) f (AssignmentRefused.refused h) = ReadingIs.refused h
-  of-assignment k (A.Assignment n type id number v) (AssignmentIs.taken a there w f) g =
+  of-assignment k (A.Assignment type id number n v) (AssignmentIs.taken a there w f) g =
       let e = entryIn n type number v m in
       ReadingIs.read {x = assignment id e} {taken = 8 + n + v} (w number) (omega (arith, length-assignment id e, part-length 3 n m (omega arith), part-length (8 + n) v m there)) there
       (λ b. assignment-stands m n type id number v b k f there)

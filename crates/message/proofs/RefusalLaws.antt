@@ -95,7 +95,7 @@ lone-rightly t v = go (parseValue t v) (value-rightly t v)
 
 pub data AssignmentRefused : AssignmentRead → Type 0 where
   refused : {fault : Fault} → RefusalNumber (fault .number) → AssignmentRefused (A.Refused fault)
-  taken : {n t id q v : ℕ} → AssignmentRefused (A.Assignment n t id q v)
+  taken : {n t id q v : ℕ} → AssignmentRefused (A.Assignment t id q n v)
 
 pub data UpdateRefused : UpdateRead → Type 0 where
   refused : {fault : Fault} → RefusalNumber (fault .number) → UpdateRefused (U.Refused fault)
@@ -119,7 +119,7 @@ after-name-rightly allowed at m =
     P : AssignmentRead → Type 0
     P = AssignmentRefused
 
-    go : (r : Parsed) → RefusedRightly r → P (andThen A.Refused r (λ v. A.Assignment (at - 3) (getD m at 0) (decode16 (drop (at + 1) m)) (decode16 (drop (at + 3) m)) v))
+    go : (r : Parsed) → RefusedRightly r → P (andThen A.Refused r (λ v. A.Assignment (getD m at 0) (decode16 (drop (at + 1) m)) (decode16 (drop (at + 3) m)) (at - 3) v))
     go (Refused fault) (RefusedRightly.refused f) = AssignmentRefused.refused f
     go (Taken n) f = AssignmentRefused.taken
 

@@ -38,7 +38,7 @@ pub record AssignmentFields (m : List ℕ) (n t id number : ℕ) : Type 0 where
 pub data AssignmentIs (allowed : ℕ → Bool) (m : List ℕ) : AssignmentRead → Type 0 where
   refused : {fault : Fault} → AssignmentIs allowed m (A.Refused fault)
   taken : {n t id q v : ℕ} → allowed id ≡ true → 8 + n + v ≤ length m → ((number : ℕ) → WellFormed (entryIn n t number v m))
-      → AssignmentFields m n t id q → AssignmentIs allowed m (A.Assignment n t id q v)
+      → AssignmentFields m n t id q → AssignmentIs allowed m (A.Assignment t id q n v)
 
 -- a name of n bytes behind the kind
 record NameAt (m : List ℕ) (n : ℕ) : Type 0 where
@@ -46,12 +46,12 @@ record NameAt (m : List ℕ) (n : ℕ) : Type 0 where
   name-text : isUtf8 (take n (drop 3 m)) ≡ true
 
 value-is : (allowed : ℕ → Bool) (m : List ℕ) (n t id q : ℕ) → NameAt m n → AssignmentFields m n t id q → allowed id ≡ true → 3 + n + 5 ≤ length m
-    → AssignmentIs allowed m (andThen A.Refused (parseValueAt t (3 + n + 5) m) (λ v. A.Assignment n t id q v))
+    → AssignmentIs allowed m (andThen A.Refused (parseValueAt t (3 + n + 5) m) (λ v. A.Assignment t id q n v))
 unfolding parseValueAt
 value-is allowed m n t id q name fields a there = go (parseValue t (drop (3 + n + 5) m)) refl
   where
     go : (r : Parsed) → parseValue t (drop (3 + n + 5) m) ≡ r
-        → AssignmentIs allowed m (andThen A.Refused (movedBy (3 + n + 5) r) (λ v. A.Assignment n t id q v))
+        → AssignmentIs allowed m (andThen A.Refused (movedBy (3 + n + 5) r) (λ v. A.Assignment t id q n v))
     go (Refused fault) e = refused
     go (Taken v) e =
         let eight : 3 + n + 5 ≡ 8 + n = omega arith in
@@ -92,11 +92,11 @@ assignment-is allowed m = go (parseText 66 0 (drop 1 m)) (text-is 66 0 (drop 1 m
         rw place
         (after-name-is allowed m n (record { name-fits = omega arith; name-text = name }) refl)
 
-pub assignment-taken : (allowed : ℕ → Bool) (m : List ℕ) (n t id q v : ℕ) → parseAssignment allowed m ≡ A.Assignment n t id q v
+pub assignment-taken : (allowed : ℕ → Bool) (m : List ℕ) (n t id q v : ℕ) → parseAssignment allowed m ≡ A.Assignment t id q n v
     → (allowed id ≡ true) × (8 + n + v ≤ length m) × ((number : ℕ) → WellFormed (entryIn n t number v m))
 assignment-taken allowed m n t id q v e = go (rw e at (assignment-is allowed m))
   where
-    go : AssignmentIs allowed m (A.Assignment n t id q v) → (allowed id ≡ true) × (8 + n + v ≤ length m) × ((number : ℕ) → WellFormed (entryIn n t number v m))
+    go : AssignmentIs allowed m (A.Assignment t id q n v) → (allowed id ≡ true) × (8 + n + v ≤ length m) × ((number : ℕ) → WellFormed (entryIn n t number v m))
     go (AssignmentIs.taken a h w f) = (a, h, w)
 
 -- ---- an update
@@ -134,7 +134,7 @@ update-taken held typeOf m id q v e = go (rw e at (update-is held typeOf m))
 pub part-length : (from n : ℕ) (m : List ℕ) → from + n ≤ length m → length (take n (drop from m)) ≡ n
 part-length from n m h = simp (length-take, length-drop) (omega arith)
 
-pub assignment-fits : (allowed : ℕ → Bool) (m : List ℕ) (n t id q v : ℕ) → parseAssignment allowed m ≡ A.Assignment n t id q v
+pub assignment-fits : (allowed : ℕ → Bool) (m : List ℕ) (n t id q v : ℕ) → parseAssignment allowed m ≡ A.Assignment t id q n v
     → (8 + n + v ≤ length m) × (n ≤ maxNameLength) × (v ≤ maxValueSize)
 assignment-fits allowed m n t id q v e =
     let w = assignment-taken allowed m n t id q v e in

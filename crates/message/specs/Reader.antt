@@ -40,7 +40,7 @@ unfoldable pub parseBehindId : (at type id : ℕ) → List ℕ → AssignmentRea
 parseBehindId at type id m =
     demandBytes (at + valueBehindName) m (A.Refused (faultAt incomplete (at + numberBehindName)))
     (andThen A.Refused (parseValueAt type (at + valueBehindName) m) (λ valueLength.
-    A.Assignment (at - assignmentNameStart) type id (decode16 (drop (at + numberBehindName) m)) valueLength))
+    A.Assignment type id (decode16 (drop (at + numberBehindName) m)) (at - assignmentNameStart) valueLength))
 
 -- an assignment's fields past its name, which begin at a place: type, ID, number, value
 unfoldable pub parseAfterName : (ℕ → Bool) → ℕ → List ℕ → AssignmentRead
@@ -78,7 +78,7 @@ parseRevision isHello m =
 
 abbrev pub ofAssignment : AssignmentRead → Decoded
 ofAssignment (A.Refused fault) = D.Refused fault
-ofAssignment (A.Assignment nameLength type id number valueLength) = D.Assignment nameLength type id number valueLength
+ofAssignment (A.Assignment type id number nameLength valueLength) = D.Assignment type id number nameLength valueLength
 
 -- "With .. a type given as a number, it is 0": an update carries no type, so one that is not known is at no byte of the message
 abbrev pub typeGiven : Fault → Fault
@@ -111,7 +111,7 @@ numberOf D.KeepAlive = done
 numberOf (D.Hello revision) = done
 numberOf (D.Unsupported revision) = done
 numberOf D.HelloComplete = done
-numberOf (D.Assignment nameLength type id number valueLength) = done
+numberOf (D.Assignment type id number nameLength valueLength) = done
 numberOf (D.Update id number valueLength) = done
 
 -- the place of the field that failed, as an answer tells it
@@ -121,7 +121,7 @@ placeOf D.KeepAlive = 0
 placeOf (D.Hello revision) = 0
 placeOf (D.Unsupported revision) = 0
 placeOf D.HelloComplete = 0
-placeOf (D.Assignment nameLength type id number valueLength) = 0
+placeOf (D.Assignment type id number nameLength valueLength) = 0
 placeOf (D.Update id number valueLength) = 0
 
 -- an assignment's name and value, and an update's value, cut out of the message: a value ends with the message
@@ -152,7 +152,7 @@ takenOf D.KeepAlive = kindSize
 takenOf (D.Hello revision) = revisionLength
 takenOf (D.Unsupported revision) = revisionLength
 takenOf D.HelloComplete = kindSize
-takenOf (D.Assignment nameLength type id number valueLength) = assignmentLength nameLength valueLength
+takenOf (D.Assignment type id number nameLength valueLength) = assignmentLength nameLength valueLength
 takenOf (D.Update id number valueLength) = updateLength valueLength
 
 -- the message that was read
@@ -162,7 +162,7 @@ contents m D.KeepAlive = some keepAlive
 contents m (D.Hello revision) = some (hello revision)
 contents m (D.Unsupported revision) = some (unsupported revision)
 contents m D.HelloComplete = some helloComplete
-contents m (D.Assignment nameLength type id number valueLength) =
+contents m (D.Assignment type id number nameLength valueLength) =
     some (assignment id (entryIn nameLength type number valueLength m))
 contents m (D.Update id number valueLength) = some (update id number (updateValueIn valueLength m))
 

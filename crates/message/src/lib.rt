@@ -68,13 +68,14 @@ pub enum AllowedId {
     Only(u16),
 }
 
+// Small fields stand before lengths, here and below, so that a refusal's place has its word with a length alone (docs/DECISIONS.md, Speed).
 pub enum AssignmentRead {
     Refused(Fault),
     Assignment {
-        name_length: usize,
         type_code: u8,
         id: u16,
         number: u16,
+        name_length: usize,
         value_length: usize,
     },
 }
@@ -96,10 +97,10 @@ pub enum Decoded {
     Unsupported(u16),
     HelloComplete,
     Assignment {
-        name_length: usize,
         type_code: u8,
         id: u16,
         number: u16,
+        name_length: usize,
         value_length: usize,
     },
     Update {

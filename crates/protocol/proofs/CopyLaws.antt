@@ -51,7 +51,7 @@ module _ (limit : ℕ) (es : List Entry) (m : List ℕ) where
   assignment-verdict : (allowed : ℕ → Bool) (r : AssignmentRead) → AssignmentIs allowed m r → AssignmentRefused r → CopyVerdictIs limit es m (judgeCopyAssignment limit es m r)
   unfolding judgeCopyAssignment
   assignment-verdict allowed (A.Refused fault) f (AssignmentRefused.refused n) = refused n
-  assignment-verdict allowed (A.Assignment n t id q v) (AssignmentIs.taken a h w f) g =
+  assignment-verdict allowed (A.Assignment t id q n v) (AssignmentIs.taken a h w f) g =
       by-test (CopyVerdictIs limit es m) _ _ _ (λ _. refused (refusal-number 13 (omega arith) (omega arith))) (λ new.
       by-test (CopyVerdictIs limit es m) _ _ _ (λ l. created (w q) new (ltb-true _ _ l) (omega arith) h) (λ _. refused (refusal-number 11 (omega arith) (omega arith))))
 

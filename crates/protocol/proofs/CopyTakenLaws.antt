@@ -52,7 +52,7 @@ module _ (limit : ℕ) (es : List Entry) (m : List ℕ) (b : Bytes m) where
   assignment-judged : (r : AssignmentRead) → AssignmentFirst (idAllowed (Only (length es))) m r → Judged es m (judgeCopyAssignment limit es m r)
   unfolding judgeCopyAssignment
   assignment-judged (A.Refused fault) f = refused
-  assignment-judged (A.Assignment n t id q v) (AssignmentFirst.taken a w f l) = taken (assignment id _) (eqb-true id (length es) a, w) f
+  assignment-judged (A.Assignment t id q n v) (AssignmentFirst.taken a w f l) = taken (assignment id _) (eqb-true id (length es) a, w) f
 
   update-judged : (r : UpdateRead) → UpdateFirst (λ i. ltb i (length es)) (λ i. getD es i defaultEntry .type) m r → Judged es m (judgeCopyUpdate m r)
   unfolding judgeCopyUpdate

@@ -65,7 +65,7 @@ module _ (limit : ℕ) (es : List Entry) (marks : List ℕ) where
       → VerdictIs limit es marks call (judgeAssignment limit es m r)
   unfolding judgeAssignment
   assignment-verdict call allowed m (A.Refused fault) f (AssignmentRefused.refused n) = refused n
-  assignment-verdict call allowed m (A.Assignment n t id q v) (AssignmentIs.taken a h w f) g =
+  assignment-verdict call allowed m (A.Assignment t id q n v) (AssignmentIs.taken a h w f) g =
       by-test (VerdictIs limit es marks call) _ _ _ (λ _. ignored) (λ new.
       by-test (VerdictIs limit es marks call) _ _ _ (λ l. created (w _) new (ltb-true _ _ l)) (λ _. refusal call 11 (omega arith) (omega arith)))
 

@@ -146,7 +146,7 @@ module _ (limit : ℕ) (es : List Entry) (m : List ℕ) (b : Bytes m) where
   assignment-judged : (r : AssignmentRead) → AssignmentFirst (idAllowed (Only newId)) m r → Judged es m (judgeAssignment limit es m r)
   unfolding judgeAssignment
   assignment-judged (A.Refused fault) f = refused
-  assignment-judged (A.Assignment n t id q v) (AssignmentFirst.taken a w f l) = taken (assignment id _) (eqb-true id newId a, w) f
+  assignment-judged (A.Assignment t id q n v) (AssignmentFirst.taken a w f l) = taken (assignment id _) (eqb-true id newId a, w) f
 
   update-judged : (c : ℕ) (r : UpdateRead) → UpdateFirst (λ i. ltb i (length es)) (λ i. getD es i defaultEntry .type) m r → Judged es m (judgeUpdate c es m r)
   unfolding judgeUpdate

@@ -87,7 +87,7 @@ module _ (limit : ℕ) (es : List Entry) (known : KnownTypes es) where
       → VerdictFails (CallFailsAt es (clientMessage c m)) (judgeAssignment limit es m r)
   unfolding judgeAssignment
   assignment-fails c m k (A.Refused fault) (AssignmentRefuses.refused h) = refused (λ _. CallFailsAt.in-message (MessageFailsAt.assignment k h))
-  assignment-fails c m k (A.Assignment n t id q v) h =
+  assignment-fails c m k (A.Assignment t id q n v) h =
       by-test (VerdictFails (CallFailsAt es (clientMessage c m))) _ _ _ (λ _. ignored) (λ _.
       by-test (VerdictFails (CallFailsAt es (clientMessage c m))) _ _ _ (λ _. created) (λ _. no-field _ 11 0 (λ tells. omega arith)))
 
@@ -207,7 +207,7 @@ module _ (limit : ℕ) (es : List Entry) (known : KnownTypes es) (m : List ℕ) 
   copy-assignment-fails : getD m 0 0 ≡ assignmentKind → (r : AssignmentRead) → AssignmentRefuses m r → P (judgeCopyAssignment limit es m r)
   unfolding P judgeCopyAssignment
   copy-assignment-fails k (A.Refused fault) (AssignmentRefuses.refused h) = CopyFails.refused (λ _. MessageFailsAt.assignment k h)
-  copy-assignment-fails k (A.Assignment n t id q v) h =
+  copy-assignment-fails k (A.Assignment t id q n v) h =
       by-test P _ _ _ (λ _. no-copy-field 13 0 (λ tells. omega arith)) (λ _.
       by-test P _ _ _ (λ _. CopyFails.created) (λ _. no-copy-field 11 0 (λ tells. omega arith)))
 

@@ -33,7 +33,7 @@ refuseMessage number = refuse (faultAt number 0)
 -- "An assignment's ID must equal the copy's count (5); after its value 13, then 11; else it is stored with its number."
 unfoldable pub judgeCopyAssignment : ℕ → List Entry → List ℕ → AssignmentRead → CopyVerdict
 judgeCopyAssignment limit es m (A.Refused fault) = refuse fault
-judgeCopyAssignment limit es m (A.Assignment nameLength type id number valueLength) =
+judgeCopyAssignment limit es m (A.Assignment type id number nameLength valueLength) =
     pick (nameHeld (nameIn nameLength m) es) (refuseMessage nameTaken)
     (demand (ltb (length es) limit) (refuseMessage tableFull)
     (storeNew (entryIn nameLength type number valueLength m) (assignmentLength nameLength valueLength)))

@@ -70,7 +70,7 @@ judgeHello c mark m =
 -- "If the name is held, 16 .. Otherwise the next ID (0, 1, 2 ..) and number 1 (H)": 11 where the table is full
 unfoldable pub judgeAssignment : ℕ → List Entry → List ℕ → AssignmentRead → Verdict
 judgeAssignment limit es m (A.Refused fault) = refuse fault
-judgeAssignment limit es m (A.Assignment nameLength type id number valueLength) =
+judgeAssignment limit es m (A.Assignment type id number nameLength valueLength) =
     pick (nameHeld (nameIn nameLength m) es) (ignore (assignmentLength nameLength valueLength))
     (demand (ltb (length es) limit) (refuseCall tableFull)
     (storeNew (newEntry (nameIn nameLength m) type (valueIn nameLength valueLength m)) (assignmentLength nameLength valueLength)))

@@ -23,8 +23,8 @@ new-start c = c .before .before .before .before .before
 
 new-fits : (c : tie.After-decision3)
     → (new-start c .args .count .now < maxEntries)
-    × (assignmentLength (c .decision3 .given .0 .0) (c .decision3 .given .0 .1 .1 .1 .0) ≤ length (new-start c .args .m .now))
-    × (c .decision3 .given .0 .0 ≤ maxNameLength) × (c .decision3 .given .0 .1 .1 .1 .0 ≤ maxValueSize)
+    × (assignmentLength (c .decision3 .given .0 .1 .1 .0) (c .decision3 .given .0 .1 .1 .1 .0) ≤ length (new-start c .args .m .now))
+    × (c .decision3 .given .0 .1 .1 .0 ≤ maxNameLength) × (c .decision3 .given .0 .1 .1 .1 .0 ≤ maxValueSize)
 unfolding new-start
 new-fits c = let s = new-start c in known-copyable (s .args .count .now) (s .args .m .now) (s .args .decision) _ (c .decision3 .given .1) (s .pre .1)
 
@@ -87,7 +87,7 @@ store-new-requires c κs =
     let d = c .before .before .before .before .before .before in
     let s = new-start d in
     let h = new-fits d in
-    let n = d .decision3 .given .0 .0 in
+    let n = d .decision3 .given .0 .1 .1 .0 in
     let v = d .decision3 .given .0 .1 .1 .1 .0 in (
       (holds-less (s .args .count .now + 1) (omega (arith, h .0)) (sound-holds maxEntries (memory s) (s .pre .0)), omega (arith, h .0)),
       (
@@ -151,7 +151,7 @@ unfolding executeCopy
 returns-3 c =
     let k = c .before .before .before .before .before in
     let d = k .before .before .before .before .before .before .before in
-    let n = d .decision3 .given .0 .0 in
+    let n = d .decision3 .given .0 .1 .1 .0 in
     rw (c .stored .ensures, d .decision3 .given .1, k .store-new .ensures, add-sub-cancel-left assignmentNameStart n, add-sub-cancel-left (assignmentFixed + n) (d .decision3 .given .0 .1 .1 .1 .0))
 
 same-length-3 : tie.Need-same-length-3

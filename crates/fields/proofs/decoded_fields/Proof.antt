@@ -8,7 +8,7 @@ use Rattle.fields.proofs.decoded_fields.Statement.{statement}
 use Rattle.fields.proofs.decoded_fields.Tie as tie
 
 -- an assignment's lengths, and an update's
-assignment-small : (c : tie.After-known-told4) → assignmentLength (c .before .d4 .given .0 .0) (c .before .d4 .given .0 .1 .1 .1 .1 .0) ≤ longestAssignment
+assignment-small : (c : tie.After-known-told4) → assignmentLength (c .before .d4 .given .0 .1 .1 .1 .0) (c .before .d4 .given .0 .1 .1 .1 .1 .0) ≤ longestAssignment
 assignment-small c = rw (c .before .d4 .given .1) at (c .before .before .before .pre)
 
 update-small : (c : tie.After-known-told5) → updateLength (c .before .d5 .given .0 .1 .1 .0) ≤ longestAssignment

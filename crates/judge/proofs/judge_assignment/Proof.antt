@@ -27,30 +27,30 @@ use Rattle.judge.proofs.judge_assignment.Tie as tie
 abbrev memory : tie.Start → TableMemory
 memory s = tableMemory (s .args .heads .now) (s .args .bytes .now) (s .args .count)
 
-to-start : tie.After-name-length → tie.Start
+to-start : tie.After-type-code → tie.Start
 to-start c = c .before .before .before .before .before .before
 
-to-name : tie.After-find-name → tie.After-name-length
+to-name : tie.After-find-name → tie.After-type-code
 to-name c = c .before .before .before
 
 -- the lengths that were read
-abbrev name-length : tie.After-name-length → ℕ
-name-length c = c .name-length .given .0 .0
+abbrev name-length : tie.After-type-code → ℕ
+name-length c = c .type-code .given .0 .1 .1 .1 .0
 
-abbrev value-length : tie.After-name-length → ℕ
-value-length c = c .name-length .given .0 .1 .1 .1 .1 .0
+abbrev value-length : tie.After-type-code → ℕ
+value-length c = c .type-code .given .0 .1 .1 .1 .1 .0
 
 abbrev name-read : tie.After-find-name → List ℕ
 name-read c = nameIn (name-length (to-name c)) (to-start (to-name c) .args .m .now)
 
 -- the assignment's name and value are there
-fits : (c : tie.After-name-length)
+fits : (c : tie.After-type-code)
     → (assignmentLength (name-length c) (value-length c) ≤ length (to-start c .args .m .now)) × (name-length c ≤ maxNameLength) × (value-length c ≤ maxValueSize)
 unfolding to-start
 fits c =
-    let g = c .name-length .given .0 in
-    assignment-fits (idAllowed (Only newId)) (to-start c .args .m .now) (g .0) (g .1 .0) (g .1 .1 .0) (g .1 .1 .1 .0) (g .1 .1 .1 .1 .0)
-    (sym (c .before .before .read-assignment .ensures) ∙ c .name-length .given .1)
+    let g = c .type-code .given .0 in
+    assignment-fits (idAllowed (Only newId)) (to-start c .args .m .now) (g .1 .1 .1 .0) (g .0) (g .1 .0) (g .1 .1 .0) (g .1 .1 .1 .1 .0)
+    (sym (c .before .before .read-assignment .ensures) ∙ c .type-code .given .1)
 
 -- the search's answer, for the name that was read
 holder-is : (c : tie.After-find-name) → c .find-name .result ≡ holder (name-read c) (entriesOf (memory (to-start (to-name c))))
@@ -72,8 +72,8 @@ read-assignment-requires c κs = search needs
 enum-known-fault : tie.Need-enum-known-fault
 enum-known-fault c = search needs
 
-enum-known-name-length : tie.Need-enum-known-name-length
-enum-known-name-length c = search needs
+enum-known-type-code : tie.Need-enum-known-type-code
+enum-known-type-code c = search needs
 
 add-name-end : tie.Need-add-name-end
 add-name-end c = omega (arith, fits (c .before) .1)
@@ -103,7 +103,7 @@ unfolding judgeAssignment to-start to-name pick
 returns c = λ sender.
     let f = c .before in
     let n = to-name f in
-    rw (← (n .before .before .read-assignment .ensures), n .name-length .given .1, name-held f (c .if1 .taken)) (decides-ignored _ _ _ _)
+    rw (← (n .before .before .read-assignment .ensures), n .type-code .given .1, name-held f (c .if1 .taken)) (decides-ignored _ _ _ _)
 
 fault-at-requires : tie.Need-fault-at-requires
 fault-at-requires c κs = search needs
@@ -115,7 +115,7 @@ returns-2 c = λ sender.
     let f = t .before .before in
     let n = to-name f in
     let s = to-start n in
-    rw (c .fault-at .ensures, ← (n .before .before .read-assignment .ensures), n .name-length .given .1, name-new f (t .before .if1 .left), length-entries (memory s), le-ltb (s .args .count) maxEntries (t .if2 .taken))
+    rw (c .fault-at .ensures, ← (n .before .before .read-assignment .ensures), n .type-code .given .1, name-new f (t .before .if1 .left), length-entries (memory s), le-ltb (s .args .count) maxEntries (t .if2 .taken))
     (decides-refusal _ _ _ _)
 
 returns-3 : tie.Need-returns-3
@@ -131,7 +131,7 @@ returns-4 c = λ sender.
     let n = to-name f in
     let s = to-start n in
     let h = fits n in
-    rw (← (n .before .before .read-assignment .ensures), n .name-length .given .1, name-new f (c .before .if1 .left), length-entries (memory s), lt-ltb (s .args .count) maxEntries (c .if2 .left))
+    rw (← (n .before .before .read-assignment .ensures), n .type-code .given .1, name-new f (c .before .if1 .left), length-entries (memory s), lt-ltb (s .args .count) maxEntries (c .if2 .left))
     (record { verdict = refl; performable = (c .if2 .left, h .0, h .1, h .2) })
 
 pub judge-assignment-spec : {M : Type 1} → statement M
@@ -140,7 +140,7 @@ judge-assignment-spec =
     (tie.spec
     read-assignment-requires
     enum-known-fault
-    enum-known-name-length
+    enum-known-type-code
     add-name-end
     sub-find-name
     part-find-name-start
