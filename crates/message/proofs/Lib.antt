@@ -5,4 +5,3 @@ pub mod RefusalLaws
 pub mod ReadBytesLaws
 pub mod ReadingLaws
 pub mod FirstLaws
-pub mod FailsLaws

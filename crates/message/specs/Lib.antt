@@ -2,4 +2,3 @@ pub mod Layout
 pub mod Reader
 pub mod Laws
 pub mod Lent
-pub mod Fails

@@ -13,4 +13,3 @@ pub mod CopyTakenLaws
 pub mod ComputedCopy
 pub mod CopyDoneLaws
 pub mod RefusedLaws
-pub mod PlaceTellsLaws

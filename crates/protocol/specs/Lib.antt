@@ -12,4 +12,3 @@ pub mod Done
 pub mod CopyTaken
 pub mod CopyDone
 pub mod Refused
-pub mod PlaceTells

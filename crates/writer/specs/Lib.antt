@@ -1,3 +1,2 @@
 pub mod Writer
 pub mod WrittenBack
-pub mod Fails

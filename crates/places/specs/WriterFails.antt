@@ -1,4 +1,4 @@
--- "counted from the start of the .. name or value lent". Proved in proofs/FailsLaws.antt.
+-- "counted from the start of the .. name or value lent". Proved in proofs/WriterFailsLaws.antt.
 use Prim.Native.Nat.{ℕ, _≤_, _<_}
 use mathlib.Core.Bool.{true, false}
 use mathlib.Core.List.{List}

@@ -16,26 +16,26 @@ use Rattle.field.proofs.PlaceLaws.{told, untold}
 use Rattle.value.specs.Value.{knownType}
 use Rattle.value.proofs.ValueLaws.{value-known}
 use Rattle.message.specs.Layout.{Entry, assignmentKind, updateKind}
-use Rattle.message.specs.Fails.{MessageFailsAt}
+use Rattle.places.specs.MessageFails.{MessageFailsAt}
 use Rattle.message.specs.Reader.{idAllowed}
 use Rattle.message.specs.declared.AllowedId.the-variants.{Only}
 use Rattle.message.specs.declared.AssignmentRead.{AssignmentRead}
 use Rattle.message.specs.declared.AssignmentRead.the-variants as A
 use Rattle.message.specs.declared.UpdateRead.{UpdateRead}
 use Rattle.message.specs.declared.UpdateRead.the-variants as U
-use Rattle.message.proofs.FailsLaws.{AssignmentRefuses, assignment-refuses, UpdateRefuses, update-refuses, place-in-message}
-use Rattle.writer.proofs.FailsLaws.{entry-refuses, lone-then}
+use Rattle.places.proofs.MessageFailsLaws.{AssignmentRefuses, assignment-refuses, UpdateRefuses, update-refuses, place-in-message}
+use Rattle.places.proofs.WriterFailsLaws.{entry-refuses, lone-then}
 use Rattle.table.specs.Table.{TableMemory, entriesOf}
 use Rattle.recipients.specs.Recipients.{Recipients}
 use Rattle.soundness.specs.Sound.{soundTable}
 use Rattle.soundness.proofs.StoredLaws.{entries-well-formed}
 use Rattle.protocol.specs.Judge.{Call, openConnection, leave, clientMessage, localCreate, localWrite, readEntry, Verdict, refuse, ignore, readDone, openMark, closeMark, acceptHello, unsupportedRevision, storeNew, storeUpdate, newId, refuseCall, judgeHello, judgeAssignment, judgeUpdate, judgeKind, judgeMessage, judgeCreate, judgeWrite, judge}
 use Rattle.protocol.specs.Step.{ServerMemory, CallResult, refusal, execute, soundFor, callStep}
 use Rattle.protocol.specs.Copy as C
 use Rattle.protocol.specs.Copy.{CopyVerdict, judgeCopyAssignment, judgeCopyUpdate, judgeCopyKind, judgeCopy, executeCopy, copyMessage}
 use Rattle.protocol.specs.Place.{placeOf, callPlace, copyPlaceOf, copyPlace}
 use Rattle.protocol.specs.Taken.{messageCall}
-use Rattle.protocol.specs.PlaceTells.{storedType, CallFailsAt, CallTells, CallPlaceInMessage, CopyTells, CopyPlaceInMessage}
+use Rattle.places.specs.PlaceTells.{storedType, CallFailsAt, CallTells, CallPlaceInMessage, CopyTells, CopyPlaceInMessage}
 
 -- the types of held entries are known
 KnownTypes : List Entry → Type 0

@@ -8,14 +8,14 @@ use Rattle.field.specs.Place.{TellsPlace, Told}
 use Rattle.value.specs.Value.{knownType}
 use Rattle.value.specs.Fails.{LoneFailsAt}
 use Rattle.message.specs.Layout.{Entry}
-use Rattle.message.specs.Fails.{MessageFailsAt}
-use Rattle.writer.specs.Fails.{EntryFailsAt}
+use Rattle.places.specs.MessageFails.{MessageFailsAt}
+use Rattle.places.specs.WriterFails.{EntryFailsAt}
 use Rattle.table.specs.Table.{TableMemory, defaultEntry, entriesOf}
 use Rattle.protocol.specs.Judge.{Call, clientMessage, localCreate, localWrite}
 use Rattle.protocol.specs.Step.{ServerMemory, LentCall, callStep}
 use Rattle.protocol.specs.Copy.{copyMessage}
 use Rattle.protocol.specs.Place.{callPlace, copyPlace}
 use Rattle.protocol.specs.Taken.{messageCall}
 
 -- "the stored entry's type"
 abbrev pub storedType : List Entry → ℕ → ℕ

@@ -14,9 +14,9 @@ use Rattle.value.specs.Value.{parseLone}
 use Rattle.value.specs.Fails.{LoneFailsAt}
 use Rattle.value.proofs.FailsLaws.{lone-refuses}
 use Rattle.message.specs.Layout.{Message, keepAlive, hello, unsupported, helloComplete}
 use Rattle.writer.specs.Writer.{Fields, checkName, Checked, checkAssignment, checkUpdate, checkByKind, check, WriteResult, writeResult, placeOf}
-use Rattle.writer.specs.Fails.{NameFailsAt, NameFails, EntryFailsAt, FieldsFailAt, WriterTells}
+use Rattle.places.specs.WriterFails.{NameFailsAt, NameFails, EntryFailsAt, FieldsFailAt, WriterTells}
 use Rattle.writer.proofs.WriterLaws.{NameIs, name-is}
 
 -- ---- a lent name
 

@@ -1,4 +1,4 @@
--- "Every call that reads a value or name passes the place on, counted from the start of the message". Proved in proofs/FailsLaws.antt.
+-- "Every call that reads a value or name passes the place on, counted from the start of the message". Proved in proofs/MessageFailsLaws.antt.
 use Prim.Native.Nat.{ℕ, _+_, _≤_, _<_}
 use mathlib.Core.Bool.{Bool, true, false}
 use mathlib.Core.List.{List}

@@ -28,16 +28,16 @@ use Rattle.value.specs.Fails.{ValueFailsAt}
 use Rattle.value.proofs.ValueLaws.{value-unknown}
 use Rattle.value.proofs.FailsLaws.{value-refuses, value-of-known, value-within}
 use Rattle.reader.specs.Reader.{parseTextAt, parseValueAt}
 use Rattle.message.specs.Layout.{assignmentKind, updateKind}
 use Rattle.message.specs.Reader.{idAllowed, parseBehindId, parseAfterName, parseAssignment, parseBehindUpdateId, parseUpdate, parseRevision, ofAssignment, typeGiven, ofUpdate, parseByKind, parseMessage, numberOf, placeOf}
-use Rattle.message.specs.Fails.{nameLengthIn, typeStart, valueStart, updateIdIn, NameStands, AssignmentFailsAt, AssignmentFails, UpdateFailsAt, UpdateFails, MessageFailsAt, PlaceInMessage, ReadingFailsAt, ReadingTells}
+use Rattle.places.specs.MessageFails.{nameLengthIn, typeStart, valueStart, updateIdIn, NameStands, AssignmentFailsAt, AssignmentFails, UpdateFailsAt, UpdateFails, MessageFailsAt, PlaceInMessage, ReadingFailsAt, ReadingTells}
 use Rattle.message.specs.declared.AllowedId.the-variants.{Any}
 use Rattle.message.specs.declared.AssignmentRead.{AssignmentRead}
 use Rattle.message.specs.declared.AssignmentRead.the-variants as A
 use Rattle.message.specs.declared.UpdateRead.{UpdateRead}
 use Rattle.message.specs.declared.UpdateRead.the-variants as U
 use Rattle.message.specs.declared.Decoded.{Decoded}
 use Rattle.message.specs.declared.Decoded.the-variants as D
 
 -- ---- an assignment
 

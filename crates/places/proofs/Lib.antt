@@ -1,0 +1,3 @@
+pub mod MessageFailsLaws
+pub mod WriterFailsLaws
+pub mod PlaceTellsLaws

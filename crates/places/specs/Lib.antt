@@ -1,0 +1,3 @@
+pub mod MessageFails
+pub mod WriterFails
+pub mod PlaceTells
