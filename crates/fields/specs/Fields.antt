@@ -55,7 +55,7 @@ fieldsOf (D.Update id number valueLength) =
 abbrev pub fieldsWithPlace : Decoded → WithPlace MessageFields
 fieldsWithPlace d = record { result = fieldsOf d; place = placeOf d }
 
--- C's struct
+-- what C's struct holds
 abbrev pub fieldsIn : Fields → WithPlace MessageFields
 fieldsIn r =
     record {
@@ -73,7 +73,7 @@ fieldsIn r =
       place = r .place;
     }
 
--- a number alone
+-- C's struct with a number alone
 abbrev pub bareFields : (number : ℕ) → Fields
 bareFields number =
     record {
