@@ -5,7 +5,7 @@ use mathlib.Core.List.{List, [], _∷_, _++_}
 use mathlib.Core.Path.{_≡_}
 use lib.ListN.{length}
 use Rattle.field.specs.Octets.{encode16}
-use Rattle.text.specs.Utf8.{isUtf8}
+use Rattle.utf8.specs.Utf8.{isUtf8}
 use Rattle.value.specs.Value.{maxValueSize, IsValue}
 
 -- an entry of the table: its value is the encoded bytes, prefix or count included

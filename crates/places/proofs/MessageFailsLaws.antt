@@ -18,7 +18,7 @@ use Rattle.field.specs.declared.Parsed.{Parsed}
 use Rattle.field.specs.declared.Parsed.the-variants.{Refused, Taken}
 use Rattle.field.proofs.ChoiceLaws.{by-test}
 use Rattle.field.proofs.PlaceLaws.{told, untold, Refuses}
-use Rattle.text.specs.Utf8.{isUtf8}
+use Rattle.utf8.specs.Utf8.{isUtf8}
 use Rattle.text.specs.Text.{parseText}
 use Rattle.text.specs.Fails.{TextFailsAt}
 use Rattle.text.proofs.TextLaws.{TextIs, text-is}

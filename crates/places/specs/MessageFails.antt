@@ -8,7 +8,7 @@ use Rattle.field.specs.Answer.{unknownType}
 use Rattle.field.specs.Octets.{decode16}
 use Rattle.field.specs.Place.{TellsPlace, Told}
 use Rattle.field.specs.declared.Fault.{Fault}
-use Rattle.text.specs.Utf8.{isUtf8}
+use Rattle.utf8.specs.Utf8.{isUtf8}
 use Rattle.text.specs.Text.{prefixSize}
 use Rattle.text.specs.Fails.{TextFailsAt}
 use Rattle.value.specs.Value.{knownType}

@@ -8,7 +8,7 @@ use Rattle.field.specs.Answer.{notUtf8, tooLong}
 use Rattle.field.specs.Place.{Told}
 use Rattle.field.specs.declared.Fault.{Fault}
 use Rattle.field.specs.declared.Parsed.the-variants.{Refused}
-use Rattle.text.specs.Utf8.{isUtf8}
+use Rattle.utf8.specs.Utf8.{isUtf8}
 use Rattle.value.specs.Fails.{LoneFailsAt}
 use Rattle.message.specs.Layout.{maxNameLength, assignmentKind, updateKind}
 use Rattle.writer.specs.Writer.{Fields, checkName, check, writeResult, placeOf}

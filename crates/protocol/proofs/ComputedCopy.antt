@@ -5,7 +5,7 @@ use Prim.Native.Nat.{ℕ}
 use lib.ListN.{replicate}
 use Rattle.field.specs.Choice.{pick}
 use Rattle.field.specs.Octets.{decode16, encode16, overwriteAt, bytesEqual}
-use Rattle.text.specs.Utf8.{afterFirst, afterByte, utf8From, isUtf8}
+use Rattle.utf8.specs.Utf8.{afterFirst, afterByte, utf8From, isUtf8}
 use Rattle.text.specs.Text.{parseText}
 use Rattle.value.specs.Value.{knownType, parseBoolean, parseElement, parseValue, parseLone}
 use Rattle.reader.specs.Reader.{parseTextAt, parseValueAt}

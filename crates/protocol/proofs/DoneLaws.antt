@@ -10,7 +10,7 @@ use Rattle.field.specs.Choice.{pick}
 use Rattle.field.specs.Octets.{overwriteAt}
 use Rattle.field.proofs.ChoiceLaws.{pick-true}
 use Rattle.field.specs.declared.Parsed.the-variants.{Taken}
-use Rattle.text.specs.Utf8.{isUtf8}
+use Rattle.utf8.specs.Utf8.{isUtf8}
 use Rattle.sequence.specs.SequenceNumber.{nextNumber, passedBy}
 use Rattle.value.specs.Value.{IsValue}
 use Rattle.value.proofs.ValueLaws.{lone-taken}

@@ -10,7 +10,7 @@ use borrow.Author.Tests.{leb-true, le-leb, lt-leb}
 use Rattle.field.specs.Choice.{pick}
 use Rattle.field.specs.declared.Parsed.{Parsed}
 use Rattle.field.specs.declared.Parsed.the-variants.{Refused, Taken}
-use Rattle.text.specs.Utf8.{isUtf8}
+use Rattle.utf8.specs.Utf8.{isUtf8}
 use Rattle.value.specs.Value.{maxValueSize, knownType, parseValue, parseLone, IsValue}
 use Rattle.value.proofs.ValueLaws.{LoneIs, lone-is, lone-taken}
 use Rattle.message.specs.Layout.{maxNameLength, WellFormed}

@@ -7,7 +7,7 @@ use lib.ListN.{length, getD}
 use lib.Dec.{leb}
 use Rattle.field.specs.declared.Parsed.{Parsed}
 use Rattle.field.specs.declared.Parsed.the-variants.{Refused, Taken}
-use Rattle.text.specs.Utf8.{isUtf8}
+use Rattle.utf8.specs.Utf8.{isUtf8}
 use Rattle.value.specs.Value.{maxValueSize, parseLone}
 use Rattle.message.specs.Layout.{maxNameLength}
 use Rattle.table.specs.Names.{namesDiffer}

@@ -52,7 +52,7 @@ fn entry_is_sound(heads: &[u16], bytes: &[u8], i: usize) -> bool
     if table::value_length_of(heads, i) > table::VALUE_SIZE {
         return false;
     }
-    if !text::is_utf8(table::name_of(heads, bytes, i)) {
+    if !utf8::is_utf8(table::name_of(heads, bytes, i)) {
         return false;
     }
     let type_code = table::type_of(heads, i);
@@ -160,7 +160,7 @@ fn names_differ(heads: &[u16], bytes: &[u8], count: usize) -> bool
     all_differ(heads, bytes, count, &mut owners)
 }
 
-// Whether a lent table is sound, with room for 64 entries.
+// Whether a lent table is sound, with room for 64 entries. Heads and bytes go on as parts of themselves (docs/DECISIONS.md, Speed).
 pub fn table_is_sound(heads: &[u16], bytes: &[u8], count: u16) -> bool
     ensures { λ r. ⌜ r ≡ soundTable maxEntries (lent (heads .entry) (bytes .entry) count) ⌝ }
 {
@@ -174,10 +174,10 @@ pub fn table_is_sound(heads: &[u16], bytes: &[u8], count: u16) -> bool
         return false;
     }
     let n = count as usize;
-    if !entries_are_sound(heads, bytes, n) {
+    if !entries_are_sound(&heads[0..], &bytes[0..], n) {
         return false;
     }
-    names_differ(heads, bytes, n)
+    names_differ(&heads[0..], &bytes[0..], n)
 }
 
 // Whether 16 connection marks are there, each one of the three.

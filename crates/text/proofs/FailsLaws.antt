@@ -13,7 +13,7 @@ use Rattle.field.specs.Place.{TellsPlace}
 use Rattle.field.specs.declared.Parsed.{Parsed}
 use Rattle.field.proofs.ChoiceLaws.{by-test}
 use Rattle.field.proofs.PlaceLaws.{Refuses, refuses-with, refused-with}
-use Rattle.text.specs.Utf8.{isUtf8, utf8From}
+use Rattle.utf8.specs.Utf8.{isUtf8, utf8From}
 use Rattle.text.specs.Text.{parseText}
 use Rattle.text.specs.Fails.{TextFailsAt, TextFails}
 

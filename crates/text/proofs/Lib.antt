@@ -1,3 +1,2 @@
-pub mod Utf8Laws
 pub mod TextLaws
 pub mod FailsLaws

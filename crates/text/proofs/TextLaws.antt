@@ -17,7 +17,7 @@ use Rattle.field.specs.declared.Parsed.{Parsed}
 use Rattle.field.specs.declared.Parsed.the-variants.{Refused, Taken}
 use Rattle.field.proofs.ChoiceLaws.{by-test}
 use Rattle.field.proofs.OctetsLaws.{decode-encode, same-length, same-decode, same-rest}
-use Rattle.text.specs.Utf8.{isUtf8}
+use Rattle.utf8.specs.Utf8.{isUtf8}
 use Rattle.text.specs.Text.{parseText}
 
 -- what a reader has checked once its prefix is there

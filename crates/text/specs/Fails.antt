@@ -8,7 +8,7 @@ use Rattle.field.specs.Answer.{incomplete, notUtf8, tooLong}
 use Rattle.field.specs.Octets.{decode16}
 use Rattle.field.specs.declared.Fault.{Fault}
 use Rattle.field.specs.declared.Parsed.the-variants.{Refused}
-use Rattle.text.specs.Utf8.{isUtf8}
+use Rattle.utf8.specs.Utf8.{isUtf8}
 use Rattle.text.specs.Text.{prefixSize, parseText}
 
 -- the field at the place breaks the rule of the number, in a text that begins with its prefix

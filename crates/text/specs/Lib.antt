@@ -1,4 +1,2 @@
-pub mod Utf8
 pub mod Text
-pub mod MarkedTexts
 pub mod Fails

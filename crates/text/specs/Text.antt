@@ -9,7 +9,7 @@ use Rattle.field.specs.Octets.{decode16}
 use Rattle.field.specs.Field.{faultAt, demandBytes}
 use Rattle.field.specs.declared.Parsed.{Parsed}
 use Rattle.field.specs.declared.Parsed.the-variants.{Refused, Taken}
-use Rattle.text.specs.Utf8.{isUtf8}
+use Rattle.utf8.specs.Utf8.{isUtf8}
 
 -- how many bytes a length prefix has
 abbrev pub prefixSize : ℕ

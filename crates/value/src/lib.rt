@@ -137,7 +137,7 @@ fn in_parts(p: Parsed) -> Parsed
     }
 }
 
-// The value of a type at the start of the bytes.
+// The value of a type at the start of the bytes. They go on as a part of themselves (docs/DECISIONS.md, Speed).
 pub fn read_value(t: u8, s: &[u8]) -> Parsed
     ensures { λ r. ⌜ r ≡ parseValue t (now (s .entry)) ⌝ }
 {
@@ -147,7 +147,7 @@ pub fn read_value(t: u8, s: &[u8]) -> Parsed
     if !known_type(t) {
         return Parsed::Refused(fault_at(UNKNOWN_TYPE, 0));
     }
-    read_array(t - BOOLEAN_ARRAY, s)
+    read_array(t - BOOLEAN_ARRAY, &s[0..])
 }
 
 // A lone value: it must fill its bytes.

@@ -6,7 +6,7 @@ ghost use Prim.Native.Nat.{_≤_};
 ghost use lib.ListN.{length};
 
 pub fn text(s: &[u8]) {
-    print::told(text::is_utf8(s));
+    print::told(utf8::is_utf8(s));
 }
 
 // Whether an update with the second number passes a stored one with the first.

@@ -15,7 +15,7 @@ use Rattle.field.specs.declared.Parsed.{Parsed}
 use Rattle.field.specs.declared.Parsed.the-variants.{Refused, Taken}
 use Rattle.field.proofs.ChoiceLaws.{by-test}
 use Rattle.answer.specs.Answers.{bareAnswer, refusedAnswer, doneAnswer}
-use Rattle.text.specs.Utf8.{isUtf8}
+use Rattle.utf8.specs.Utf8.{isUtf8}
 use Rattle.value.specs.Value.{parseLone, IsValue}
 use Rattle.value.proofs.ValueLaws.{LoneIs, lone-is, lone-taken, value-small}
 use Rattle.message.specs.Layout.{Entry, Message, keepAlive, hello, unsupported, helloComplete, assignment, update, layout, keepAliveKind, helloKind, unsupportedKind, helloCompleteKind, assignmentKind, updateKind, WellFormed, WellFormedMessage}

@@ -13,7 +13,7 @@ use Rattle.field.specs.declared.Fault.{Fault}
 use Rattle.field.specs.declared.Parsed.{Parsed}
 use Rattle.field.specs.declared.Parsed.the-variants.{Refused, Taken}
 use Rattle.answer.specs.declared.Answer.{Answer}
-use Rattle.text.specs.Utf8.{isUtf8}
+use Rattle.utf8.specs.Utf8.{isUtf8}
 use Rattle.value.specs.Value.{parseLone}
 use Rattle.message.specs.Layout.{Entry, Message, keepAlive, hello, unsupported, helloComplete, assignment, update, layout, maxNameLength, keepAliveKind, helloKind, unsupportedKind, helloCompleteKind, assignmentKind, updateKind}
 

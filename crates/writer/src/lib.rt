@@ -34,7 +34,7 @@ pub fn check_name(name: &[u8]) -> Parsed
     if (MAX_NAME_LENGTH as usize) < name.len() {
         return Parsed::Refused(fault_at(TOO_LONG, 0));
     }
-    if text::is_utf8(name) {
+    if utf8::is_utf8(name) {
         return Parsed::Taken(name.len());
     }
     Parsed::Refused(fault_at(NOT_UTF8, 0))

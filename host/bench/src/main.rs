@@ -5,57 +5,22 @@
 
 #![forbid(unsafe_code)]
 
-mod subject;
-
+use bench::measure::{Effort, calibrate, fastest, time};
+use bench::subject::{CALLS, SIZES, Subject, VALUES, WORST_CASE, has_table, sizes};
 use nt2_tests::arguments::Arguments;
-use nt2_tests::implementation::{Implementation, Library, Reference};
+use nt2_tests::implementation::{Library, Reference};
 use std::hint::black_box;
 use std::process::ExitCode;
-use std::time::{Duration, Instant};
-use subject::{CALLS, Subject, TABLE_CALLS, VALUES, WORST_CASE};
-
-const SIZES: [usize; 3] = [1, 16, 64];
 
 /// The goals: library by reference, and 64 entries by 16.
 const MOST_RATIO: f64 = 1.0;
 const MOST_GROWTH: f64 = 4.0;
-
-#[derive(Clone, Copy)]
-struct Effort {
-    rounds: usize,
-    round: Duration,
-}
 
 /// Nanoseconds of one call: library and reference.
 #[derive(Clone, Copy, Default)]
 struct Times {
     library: f64,
     reference: f64,
-}
-
-fn fastest(times: &[f64]) -> f64 {
-    times.iter().copied().fold(f64::INFINITY, f64::min)
-}
-
-fn time(iterations: usize, work: impl FnOnce(usize)) -> f64 {
-    let start = Instant::now();
-    work(iterations);
-    start.elapsed().as_nanos() as f64 / iterations as f64
-}
-
-/// So many iterations that a round takes its time.
-fn calibrate<I: Implementation>(subject: &mut Subject, call: usize, effort: Effort) -> usize {
-    let mut iterations = 1;
-    loop {
-        let start = Instant::now();
-        subject.repeat::<I>(call, iterations);
-        let elapsed = start.elapsed();
-        if elapsed > effort.round / 4 {
-            let scale = effort.round.as_secs_f64() / elapsed.as_secs_f64();
-            return ((iterations as f64 * scale) as usize).max(1);
-        }
-        iterations *= 2;
-    }
 }
 
 fn measure(subject: &mut Subject, call: usize, effort: Effort) -> Times {
@@ -122,11 +87,10 @@ struct Measured {
 impl Measured {
     /// Measures and prints a call's row.
     fn row(&mut self, values: usize, call: usize, effort: Effort) {
-        let (name, sizes) =
-            (CALLS[call], if call < TABLE_CALLS { &SIZES[..] } else { &SIZES[..1] });
+        let name = CALLS[call];
         let mut all = [Times::default(); SIZES.len()];
         print!("{name:<22}");
-        for (times, &entries) in all.iter_mut().zip(sizes) {
+        for (times, &entries) in all.iter_mut().zip(sizes(call)) {
             let mut subject = Subject::new(values, entries);
             *times = measure(&mut subject, call, effort);
             print!(" {:>9.1} {:>9.1} {:>6.2}", times.library, times.reference, ratio(*times));
@@ -137,7 +101,7 @@ impl Measured {
             }
         }
         let growth = (all[2].library / all[1].library, all[2].reference / all[1].reference);
-        if call < TABLE_CALLS {
+        if has_table(call) {
             print!("  {:>6.2} ({:>6.2})", growth.0, growth.1);
         }
         println!();
@@ -167,10 +131,7 @@ impl Measured {
 
 fn run() -> Result<(), String> {
     let arguments = Arguments::read(&["rounds", "microseconds"])?;
-    let effort = Effort {
-        rounds: arguments.number("rounds", 25)?,
-        round: Duration::from_micros(arguments.number("microseconds", 500)?),
-    };
+    let effort = Effort::given(&arguments, 25, 500)?;
     println!(
         "ns per call: library, reference, ratio; growth: 64 entries by 16, library (reference)"
     );

@@ -40,7 +40,19 @@ pub const CALLS: [&str; 21] = [
     "decode assignment",
     "decode update",
 ];
-pub const TABLE_CALLS: usize = 17;
+const TABLE_CALLS: usize = 17;
+
+/// How many entries the tables have.
+pub const SIZES: [usize; 3] = [1, 16, 64];
+
+pub fn has_table(call: usize) -> bool {
+    call < TABLE_CALLS
+}
+
+/// The sizes on which a call is timed: the first alone, where it has no table.
+pub fn sizes(call: usize) -> &'static [usize] {
+    if has_table(call) { &SIZES } else { &SIZES[..1] }
+}
 
 /// The connection that calls; all others are greeted.
 const SENDER: usize = 3;
@@ -176,7 +188,8 @@ impl Subject {
             "fresh" => {
                 for _ in 0..times {
                     let Subject { heads, bytes, count, marks, .. } = self;
-                    black_box(I::fresh(LentTable { heads, bytes, count }, marks));
+                    let answer = I::fresh(LentTable { heads, bytes, count }, marks);
+                    assert_eq!(black_box(answer).number, 0);
                 }
                 self.count = count;
                 self.marks = [2; CONNECTIONS];
@@ -249,7 +262,7 @@ impl Subject {
             }
             "copy fresh" => {
                 for _ in 0..times {
-                    black_box(I::copy_fresh(self.table()));
+                    assert_eq!(black_box(I::copy_fresh(self.table())).number, 0);
                 }
                 self.count = count;
             }

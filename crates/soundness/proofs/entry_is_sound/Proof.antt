@@ -4,7 +4,7 @@ use mathlib.Core.List.{List}
 use Prim.Native.Nat.{ℕ}
 use native.Mathlib.Omega.{arith}
 use borrow.Author.Tests.{not-true, not-false}
-use Rattle.text.specs.Utf8.{isUtf8}
+use Rattle.utf8.specs.Utf8.{isUtf8}
 use Rattle.value.specs.Value.{parseLone}
 use Rattle.table.specs.Table.{typeField, headField, entryAt}
 use Rattle.soundness.specs.Sound.{accepted, soundEntry}

@@ -1,10 +1,11 @@
 -- `read_value` answers `parseValue`: the tests of the type are rewritten, and each reader's promise closes its return.
 use Rattle.value.proofs.ValueLaws.{known-array}
 use mathlib.Core.Path.{sym, ap, _∙_}
+use Prim.Native.Nat.{_-_}
 use borrow.Author.Tests.{le-leb, lt-leb, not-true, not-false}
 use Rattle.field.specs.Choice.{pick}
 use Rattle.field.proofs.OctetsLaws.{rest-all}
-use Rattle.value.specs.Value.{parseElement, parseValue}
+use Rattle.value.specs.Value.{parseElement, parseArray, parseValue}
 use borrow.Author.Needs.{needs}
 use Rattle.value.proofs.read_value.Statement.{statement}
 use Rattle.value.proofs.read_value.Tie as tie
@@ -47,12 +48,24 @@ returns-2 d =
 sub-read-array : tie.Need-sub-read-array
 sub-read-array c = known-array (c .before .before .before .before .args .t) (c .before .before .if1 .left) (sym (c .before .known-type .ensures) ∙ not-false (c .before .known-type .result) (c .if2 .left))
 
+sub-read-array-2 : tie.Need-sub-read-array-2
+sub-read-array-2 c = search needs
+
+part-read-array-start : tie.Need-part-read-array-start
+part-read-array-start c = search needs
+
+part-read-array-end : tie.Need-part-read-array-end
+part-read-array-end c = search needs
+
 read-array-requires : tie.Need-read-array-requires
 read-array-requires c κs = search needs
 
 returns-3 : tie.Need-returns-3
 unfolding parseValue pick
-returns-3 c = rw (lt-leb _ _ (c .before .before .before .if1 .left), ← (c .before .before .known-type .ensures), not-false (c .before .before .known-type .result) (c .before .if2 .left)) (c .read-array .ensures)
+returns-3 c =
+    let w = c .before .before in
+    let a = w .before .before .before .before .args in
+    rw (lt-leb _ _ (w .before .before .if1 .left), ← (w .before .known-type .ensures), not-false (w .before .known-type .result) (w .if2 .left)) (c .read-array .ensures ∙ ap (parseArray (a .t - 0x10)) (rest-all 0 (a .s .now)))
 
 pub read-value-spec : {M : Type 1} → statement M
 read-value-spec =
@@ -68,5 +81,8 @@ read-value-spec =
     fault-at-requires
     returns-2
     sub-read-array
+    sub-read-array-2
+    part-read-array-start
+    part-read-array-end
     read-array-requires
     returns-3)

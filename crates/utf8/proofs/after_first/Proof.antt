@@ -2,9 +2,9 @@
 use borrow.Author.Tests.{le-leb, lt-leb}
 use native.Mathlib.Omega.{arith}
 use Rattle.field.specs.Choice.{pick}
-use Rattle.text.specs.Utf8.{afterFirst}
-use Rattle.text.proofs.after_first.Statement.{statement}
-use Rattle.text.proofs.after_first.Tie as tie
+use Rattle.utf8.specs.Utf8.{afterFirst}
+use Rattle.utf8.proofs.after_first.Statement.{statement}
+use Rattle.utf8.proofs.after_first.Tie as tie
 
 returns : tie.Need-returns
 unfolding afterFirst pick

@@ -1,10 +1,10 @@
 -- `after_byte` answers `afterByte`: each case of what was expected is told, and each test turned into the definition's.
 use borrow.Author.Tests.{le-leb, lt-leb, eq-eqb, ne-eqb}
 use Rattle.field.specs.Choice.{pick}
-use Rattle.text.specs.Utf8.{afterByte}
+use Rattle.utf8.specs.Utf8.{afterByte}
 use borrow.Author.Needs.{needs}
-use Rattle.text.proofs.after_byte.Statement.{statement}
-use Rattle.text.proofs.after_byte.Tie as tie
+use Rattle.utf8.proofs.after_byte.Statement.{statement}
+use Rattle.utf8.proofs.after_byte.Tie as tie
 
 enum-told : tie.Need-enum-told
 enum-told c = search needs

@@ -1,11 +1,12 @@
 -- UTF-8, from the ABNF of RFC 3629, section 4.
-use Prim.Native.Nat.{ℕ, _-_}
+use Prim.Native.Nat.{ℕ, _-_, _≤_, _<_}
 use mathlib.Core.List.{List, [], _∷_}
 use mathlib.Core.Bool.{Bool, true, false}
 use lib.Dec.{leb, eqb}
+use lib.ListN.{getD}
 use Rattle.field.specs.Choice.{pick}
-use Rattle.text.specs.declared.Expected.{Expected}
-use Rattle.text.specs.declared.Expected.the-variants.{Boundary, Tail, Invalid}
+use Rattle.utf8.specs.declared.Expected.{Expected}
+use Rattle.utf8.specs.declared.Expected.the-variants.{Boundary, Tail, Invalid}
 
 -- what follows a character's first byte b: the rows of UTF8-1 to UTF8-4 in rising order of b.
 -- `Tail low high n` is a byte from low to high and then n of UTF8-tail, %x80-BF
@@ -44,3 +45,7 @@ utf8From e (b ∷ s) = utf8From (afterByte e b) s
 -- UTF8-octets = *( UTF8-char )
 unfoldable pub isUtf8 : List ℕ → Bool
 isUtf8 s = utf8From Boundary s
+
+-- the bytes from one place up to another are of UTF8-1
+abbrev pub Ascii : ℕ → ℕ → List ℕ → Type 0
+Ascii from to s = (i : ℕ) → from ≤ i → i < to → getD s i 0 ≤ 0x7F

@@ -4,10 +4,10 @@ use Prim.Native.Nat.{_-_, _≤_}
 use native.Mathlib.Omega.{arith}
 use borrow.Author.Needs.{needs}
 use lib.ListN.{length, drop}
-use Rattle.text.specs.Utf8.{utf8From, isUtf8}
-use Rattle.text.proofs.Utf8Laws.{utf8-step, utf8-end}
-use Rattle.text.proofs.is_utf8_by_character.Statement.{statement}
-use Rattle.text.proofs.is_utf8_by_character.Tie as tie
+use Rattle.utf8.specs.Utf8.{utf8From, isUtf8}
+use Rattle.utf8.proofs.Utf8Laws.{utf8-step, utf8-end}
+use Rattle.utf8.proofs.is_utf8_by_character.Statement.{statement}
+use Rattle.utf8.proofs.is_utf8_by_character.Tie as tie
 
 abbrev Inv-loop : tie.InvT-loop
 Inv-loop s e₀ i₀ e i = (i ≤ length s) × (utf8From e (drop i s) ≡ isUtf8 s)

@@ -1,0 +1,34 @@
+use Prim.Native.Nat.{_+_}
+use native.Mathlib.Omega.{arith}
+use borrow.Author.Needs.{needs}
+use Rattle.utf8.proofs.Utf8Laws.{ascii-both}
+use Rattle.utf8.proofs.are_8_ascii.Statement.{statement}
+use Rattle.utf8.proofs.are_8_ascii.Tie as tie
+
+are-4-ascii-requires : tie.Need-are-4-ascii-requires
+are-4-ascii-requires c κs = search needs
+
+add-are-4-ascii : tie.Need-add-are-4-ascii
+add-are-4-ascii c = search needs
+
+are-4-ascii-requires-2 : tie.Need-are-4-ascii-requires-2
+are-4-ascii-requires-2 c κs = search needs
+
+both-requires : tie.Need-both-requires
+both-requires c κs = search needs
+
+returns : tie.Need-returns
+returns c =
+    let two = c .before in
+    let one = two .before in
+    let a = one .before .before .args in
+    let at = a .at in
+    ascii-both at (at + 4) (at + 4) (at + 8) (one .are-4-ascii .result) (two .are-4-ascii2 .result) (c .both .result) (a .s .now) (omega arith)
+    (one .are-4-ascii .ensures)
+    (λ t i l u. two .are-4-ascii2 .ensures t i (omega arith) (omega arith))
+    (c .both .ensures)
+
+pub are-8-ascii-spec : {M : Type 1} → statement M
+are-8-ascii-spec =
+    tie.close
+    (tie.spec are-4-ascii-requires add-are-4-ascii are-4-ascii-requires-2 both-requires returns)
