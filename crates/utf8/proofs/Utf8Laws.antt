@@ -1,4 +1,4 @@
--- Laws of UTF-8 that a loop over the bytes cites, and the marked texts.
+-- Laws of UTF-8 that loops over the bytes and blocks of them cite, and the marked texts.
 use mathlib.Core.Path.{_≡_, refl, sym, _∙_}
 use mathlib.Core.Bool.{Bool, true, _&&_, and-eq-true-iff}
 use mathlib.Core.List.{List, [], _∷_}

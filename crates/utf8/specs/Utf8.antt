@@ -46,6 +46,6 @@ utf8From e (b ∷ s) = utf8From (afterByte e b) s
 unfoldable pub isUtf8 : List ℕ → Bool
 isUtf8 s = utf8From Boundary s
 
--- the bytes from one place up to another are of UTF8-1
+-- the bytes from one place up to another, which are there, are of UTF8-1
 abbrev pub Ascii : ℕ → ℕ → List ℕ → Type 0
 Ascii from to s = (i : ℕ) → from ≤ i → i < to → getD s i 0 ≤ 0x7F

@@ -88,6 +88,7 @@ fn still_ascii(so_far: bool, b: u8) -> bool
     if b <= 0x7F { so_far } else { false }
 }
 
+// Whether both are true. Both are looked at: `&&` would be a way out.
 fn both(a: bool, b: bool) -> bool
     ensures { λ r. ⌜ r ≡ (a && b) ⌝ }
 {
@@ -132,7 +133,8 @@ fn are_ascii_below(s: &[u8], end: usize) -> bool
     so_far
 }
 
-// Whether every byte is a character of its own. The first and the last of some bytes may overlap, so that none is left to be looked at alone.
+// Whether every byte is a character of its own. From 4 bytes on, a text under 32 is two blocks, which may overlap; a longer one is its last 32 bytes
+// and its whole 32s.
 fn is_ascii(s: &[u8]) -> bool
     ensures { λ r. ⌜ (r ≡ true → Ascii 0 (length (now (s .entry))) (now (s .entry))) ⌝ }
 {

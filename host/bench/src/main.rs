@@ -8,6 +8,7 @@
 use bench::measure::{Effort, calibrate, fastest, time};
 use bench::subject::{CALLS, SIZES, Subject, VALUES, WORST_CASE, has_table, sizes};
 use nt2_tests::arguments::Arguments;
+use nt2_tests::ending::status;
 use nt2_tests::implementation::{Library, Reference};
 use std::hint::black_box;
 use std::process::ExitCode;
@@ -155,13 +156,7 @@ fn run() -> Result<(), String> {
 }
 
 fn main() -> ExitCode {
-    match run() {
-        Ok(()) => ExitCode::SUCCESS,
-        Err(failure) => {
-            eprintln!("bench: {failure}");
-            ExitCode::FAILURE
-        }
-    }
+    status("bench", run())
 }
 
 #[cfg(test)]

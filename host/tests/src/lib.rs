@@ -8,6 +8,7 @@ pub mod arguments;
 pub mod call;
 pub mod convergence;
 pub mod differential;
+pub mod ending;
 pub mod fingerprint;
 pub mod generate;
 pub mod implementation;

@@ -17,14 +17,14 @@ use Rattle.soundness.proofs.table_is_sound.Tie as tie
 abbrev memory : tie.Start → TableMemory
 memory c = tableMemory (c .args .heads .now) (c .args .bytes .now) (c .args .count)
 
--- the memory of a call whose sizes and count fit, and whether its entries are sound
-abbrev of-call : tie.Else3 → TableMemory
-of-call c = memory (c .before .before .before .before .before)
+-- the memory lent to a call whose sizes and count fit, and whether its entries are sound
+abbrev lent-to : tie.Else3 → TableMemory
+lent-to c = memory (c .before .before .before .before .before)
 
-abbrev entriesSound : TableMemory → Bool
-entriesSound m = allBelow (m .count) (soundEntry (m .heads) (m .bytes))
+abbrev entries-sound : TableMemory → Bool
+entries-sound m = allBelow (m .count) (soundEntry (m .heads) (m .bytes))
 
-holds : (c : tie.Else3) → Holds maxEntries (c .before .before .before .before .before .args .heads .now) (c .before .before .before .before .before .args .bytes .now)
+holds : (c : tie.Else3) → Holds maxEntries (lent-to c .heads) (lent-to c .bytes)
 holds c = record { heads-hold = omega arith; bytes-hold = omega arith }
 
 returns : tie.Need-returns
@@ -66,19 +66,19 @@ part-entries-are-sound-end-2 c = search needs
 entries-are-sound-requires : tie.Need-entries-are-sound-requires
 entries-are-sound-requires c κs =
     let e = c .before .before in
-    let m = of-call e in
+    let m = lent-to e in
     rw (rest-all 0 (m .heads), rest-all 0 (m .bytes)) (holds-less _ (omega arith) (holds e))
 
-judged : (c : tie.After-entries-are-sound) → c .entries-are-sound .result ≡ entriesSound (of-call (c .before .before .before))
+judged : (c : tie.After-entries-are-sound) → c .entries-are-sound .result ≡ entries-sound (lent-to (c .before .before .before))
 judged c =
-    let m = of-call (c .before .before .before) in
+    let m = lent-to (c .before .before .before) in
     rw (rest-all 0 (m .heads), rest-all 0 (m .bytes)) at (c .entries-are-sound .ensures)
 
 returns-4 : tie.Need-returns-4
 returns-4 c =
     let e = c .before .before .before .before in
-    let m = of-call e in
-    let no : entriesSound m ≡ false = sym (judged (c .before)) ∙ not-true _ (c .if4 .taken) in
+    let m = lent-to e in
+    let no : entries-sound m ≡ false = sym (judged (c .before)) ∙ not-true _ (c .if4 .taken) in
     rw (fits-sound maxEntries m (holds e) (omega arith), no)
 
 sub-names-differ : tie.Need-sub-names-differ
@@ -102,15 +102,15 @@ part-names-differ-end-2 c = search needs
 names-differ-requires : tie.Need-names-differ-requires
 names-differ-requires c κs =
     let e = c .before .before .before .before .before .before in
-    let m = of-call e in
-    let yes : entriesSound m ≡ true = sym (judged (c .before .before .before)) ∙ not-false _ (c .before .before .if4 .left) in
+    let m = lent-to e in
+    let yes : entries-sound m ≡ true = sym (judged (c .before .before .before)) ∙ not-false _ (c .before .before .if4 .left) in
     rw (rest-all 0 (m .heads), rest-all 0 (m .bytes)) (omega arith, entries-named (m .count) (m .heads) (m .bytes) (holds-less (m .count) (omega arith) (holds e)) yes)
 
 returns-5 : tie.Need-returns-5
 returns-5 c =
     let e = c .before .before .before .before .before .before .before in
-    let m = of-call e in
-    let yes : entriesSound m ≡ true = sym (judged (c .before .before .before .before)) ∙ not-false _ (c .before .before .before .if4 .left) in
+    let m = lent-to e in
+    let yes : entries-sound m ≡ true = sym (judged (c .before .before .before .before)) ∙ not-false _ (c .before .before .before .if4 .left) in
     rw (fits-sound maxEntries m (holds e) (omega arith), yes) (rw (rest-all 0 (m .heads), rest-all 0 (m .bytes)) at (c .names-differ .ensures))
 
 pub table-is-sound-spec : {M : Type 1} → statement M

@@ -1,3 +1,4 @@
+-- `are_16_ascii` is true of ASCII only: its two halves meet.
 use Prim.Native.Nat.{_+_}
 use native.Mathlib.Omega.{arith}
 use borrow.Author.Needs.{needs}

@@ -1,4 +1,4 @@
--- `are_4_ascii` is true of such bytes only: each is one more of them.
+-- `are_4_ascii` is true of ASCII only: each byte is one more.
 use mathlib.Core.Bool.{true}
 use Prim.Native.Nat.{_+_}
 use native.Mathlib.Omega.{arith}

@@ -1,4 +1,4 @@
--- `are_ascii_below` is true of such bytes only. The loop's invariant: so far they were.
+-- `are_ascii_below` is true of ASCII only. The loop's invariant: where no other byte was met, all so far are.
 use mathlib.Core.Path.{_≡_}
 use mathlib.Core.Bool.{true}
 use Prim.Native.Nat.{_+_, _-_, _≤_}

@@ -1,4 +1,4 @@
--- `is_ascii` is true of such bytes only: runs of them that meet or overlap reach from the first byte to the last.
+-- `is_ascii` is true of ASCII only: blocks that meet or overlap reach from the first byte to the last.
 use mathlib.Core.Path.{sym}
 use mathlib.Core.Bool.{true, false≢true, and-true}
 use Prim.Native.Nat.{_-_, _*_, _/_}

@@ -1,34 +1,41 @@
 //! Two libraries beside each other: runs the `rows` of an earlier checkout and of this one in turn,
-//! and prints every row's best time in both. It ends with the rows that are slower than the limit.
+//! and prints every row's best time in both and their ratio, the highest last. The last line says how
+//! many rows are above the limit.
 //!
 //! Arguments: `--before ROWS`, `--now ROWS` (else the one beside this program), `--runs N`.
 
 #![forbid(unsafe_code)]
 
 use nt2_tests::arguments::Arguments;
+use nt2_tests::ending::status;
 use std::collections::BTreeMap;
 use std::env;
-use std::path::PathBuf;
-use std::process::{Command, ExitCode};
+use std::path::{Path, PathBuf};
+use std::process::{Command, ExitCode, Stdio};
 
-/// How much of its time before a row may take.
+/// The highest ratio, now by before, that a row may have.
 const MOST_RATIO: f64 = 1.03;
 
+/// Nanoseconds by a row's name.
 type Rows = BTreeMap<String, f64>;
 
 /// The rows of a program's output.
 fn parse(output: &str) -> Result<Rows, String> {
     let row = |line: &str| {
         let (nanoseconds, name) = line.split_once('\t')?;
-        Some((name.to_string(), nanoseconds.parse().ok()?))
+        let nanoseconds: f64 = nanoseconds.parse().ok()?;
+        (nanoseconds.is_finite() && nanoseconds > 0.0).then(|| (name.to_string(), nanoseconds))
     };
     output.lines().map(|line| row(line).ok_or_else(|| format!("not a row: {line}"))).collect()
 }
 
-/// Runs a program once; each row keeps the best time.
-fn run_once(program: &PathBuf, best: &mut Rows) -> Result<(), String> {
+/// Runs a program once; each row keeps its best time.
+fn run_once(program: &Path, best: &mut Rows) -> Result<(), String> {
     let failed = |why: String| format!("{}: {why}", program.display());
-    let output = Command::new(program).output().map_err(|error| failed(error.to_string()))?;
+    let output = Command::new(program)
+        .stderr(Stdio::inherit())
+        .output()
+        .map_err(|error| failed(error.to_string()))?;
     if !output.status.success() {
         return Err(failed(output.status.to_string()));
     }
@@ -39,45 +46,40 @@ fn run_once(program: &PathBuf, best: &mut Rows) -> Result<(), String> {
     Ok(())
 }
 
-/// The rows that both have, with their ratios, the lowest first.
-fn ratios<'a>(before: &'a Rows, now: &Rows) -> Vec<(f64, &'a str)> {
-    let mut all: Vec<_> = before
-        .iter()
-        .filter_map(|(name, earlier)| Some((now.get(name)? / earlier, name.as_str())))
-        .collect();
+/// All rows with their ratios, the lowest first. Both sides have to have the same rows, and some.
+fn ratios<'a>(before: &'a Rows, now: &Rows) -> Result<Vec<(f64, &'a str)>, String> {
+    if before.is_empty() || !before.keys().eq(now.keys()) {
+        return Err("the two programs do not print the same rows".to_string());
+    }
+    let mut all: Vec<_> =
+        before.iter().map(|(name, earlier)| (now[name] / earlier, name.as_str())).collect();
     all.sort_by(|left, right| left.0.total_cmp(&right.0));
-    all
+    Ok(all)
 }
 
 fn run() -> Result<(), String> {
     let arguments = Arguments::read(&["before", "now", "runs"])?;
-    let before = PathBuf::from(arguments.text("before").ok_or("--before is missing")?);
-    let own = env::current_exe().map_err(|error| error.to_string())?.with_file_name("rows");
-    let now = arguments.text("now").map_or(own, PathBuf::from);
-    let (mut earlier, mut later) = (Rows::new(), Rows::new());
+    let program_before = PathBuf::from(arguments.text("before").ok_or("--before is missing")?);
+    let beside = env::current_exe().map_err(|error| error.to_string())?.with_file_name("rows");
+    let program_now = arguments.text("now").map_or(beside, PathBuf::from);
+    let (mut before, mut now) = (Rows::new(), Rows::new());
     for _ in 0..arguments.number("runs", 32)? {
-        run_once(&before, &mut earlier)?;
-        run_once(&now, &mut later)?;
+        run_once(&program_before, &mut before)?;
+        run_once(&program_now, &mut now)?;
     }
-    let all = ratios(&earlier, &later);
+    let all = ratios(&before, &now)?;
     println!("{:>10} {:>10} {:>6}", "before", "now", "ratio");
     for (ratio, name) in &all {
-        println!("{:>10.1} {:>10.1} {ratio:>6.3}  {name}", earlier[*name], later[*name]);
+        println!("{:>10.1} {:>10.1} {ratio:>6.3}  {name}", before[*name], now[*name]);
     }
     let mean = (all.iter().map(|(ratio, _)| ratio.ln()).sum::<f64>() / all.len() as f64).exp();
-    let slower = all.iter().filter(|(ratio, _)| *ratio > MOST_RATIO).count();
-    println!("{} rows, mean {mean:.3}; above {MOST_RATIO}: {slower}", all.len());
+    let above = all.iter().filter(|(ratio, _)| *ratio > MOST_RATIO).count();
+    println!("{} rows, mean {mean:.3}; above {MOST_RATIO}: {above}", all.len());
     Ok(())
 }
 
 fn main() -> ExitCode {
-    match run() {
-        Ok(()) => ExitCode::SUCCESS,
-        Err(failure) => {
-            eprintln!("beside: {failure}");
-            ExitCode::FAILURE
-        }
-    }
+    status("beside", run())
 }
 
 #[cfg(test)]
@@ -87,8 +89,24 @@ mod tests {
     #[test]
     fn rows_are_compared_by_their_names() {
         let before = parse("10.0\tsmall, read, 1\n4.0\tsmall, open, 1\n").unwrap();
-        let now = parse("5.0\tsmall, open, 1\n9.0\tsmall, read, 1\n1.0\tnew\n").unwrap();
-        assert_eq!(ratios(&before, &now), [(0.9, "small, read, 1"), (1.25, "small, open, 1")]);
+        let now = parse("5.0\tsmall, open, 1\n9.0\tsmall, read, 1\n").unwrap();
+        let expected = [(0.9, "small, read, 1"), (1.25, "small, open, 1")];
+        assert_eq!(ratios(&before, &now).unwrap(), expected);
+    }
+
+    #[test]
+    fn other_rows_are_not_compared() {
+        let (one, two) = (parse("1.0\ta").unwrap(), parse("1.0\ta\n1.0\tb").unwrap());
+        assert!(ratios(&one, &two).is_err());
+        assert!(ratios(&two, &one).is_err());
+        assert!(ratios(&Rows::new(), &Rows::new()).is_err());
+    }
+
+    #[test]
+    fn times_are_numbers_above_zero() {
         assert!(parse("10.0 small").is_err());
+        assert!(parse("inf\tsmall").is_err());
+        assert!(parse("NaN\tsmall").is_err());
+        assert!(parse("0.0\tsmall").is_err());
     }
 }

@@ -1,5 +1,5 @@
-//! Nanoseconds of every call of the library alone, one line for each values, call and number of
-//! entries: what `beside` reads.
+//! Nanoseconds of every call of the library alone, one line for each set of values, call and number
+//! of entries: what `beside` reads.
 //!
 //! Arguments: `--rounds N` (the fastest counts), `--microseconds N` of one round.
 
@@ -8,6 +8,7 @@
 use bench::measure::{Effort, calibrate, fastest, time};
 use bench::subject::{CALLS, Subject, VALUES, sizes};
 use nt2_tests::arguments::Arguments;
+use nt2_tests::ending::status;
 use nt2_tests::implementation::Library;
 use std::process::ExitCode;
 
@@ -35,11 +36,5 @@ fn run() -> Result<(), String> {
 }
 
 fn main() -> ExitCode {
-    match run() {
-        Ok(()) => ExitCode::SUCCESS,
-        Err(failure) => {
-            eprintln!("rows: {failure}");
-            ExitCode::FAILURE
-        }
-    }
+    status("rows", run())
 }

@@ -4,6 +4,7 @@
 
 use nt2_tests::acceptance::{FILES, folder, replay};
 use nt2_tests::arguments::Arguments;
+use nt2_tests::ending::status;
 use nt2_tests::implementation::{Implementation, Reference};
 use std::path::{Path, PathBuf};
 use std::process::ExitCode;
@@ -33,11 +34,5 @@ fn run() -> Result<(), String> {
 }
 
 fn main() -> ExitCode {
-    match run() {
-        Ok(()) => ExitCode::SUCCESS,
-        Err(failure) => {
-            eprintln!("acceptance: {failure}");
-            ExitCode::FAILURE
-        }
-    }
+    status("acceptance", run())
 }

@@ -6,6 +6,7 @@
 use nt2_tests::arguments::Arguments;
 use nt2_tests::convergence::run as random_run;
 #[cfg(feature = "library")]
+use nt2_tests::ending::status;
 use nt2_tests::implementation::Library as Tested;
 #[cfg(not(feature = "library"))]
 use nt2_tests::implementation::Reference as Tested;
@@ -51,11 +52,5 @@ fn run() -> Result<(), String> {
 }
 
 fn main() -> ExitCode {
-    match run() {
-        Ok(()) => ExitCode::SUCCESS,
-        Err(failure) => {
-            eprintln!("convergence: {failure}");
-            ExitCode::FAILURE
-        }
-    }
+    status("convergence", run())
 }

@@ -6,6 +6,7 @@
 use nt2_tests::arguments::Arguments;
 use nt2_tests::differential::{Bounds, compare};
 #[cfg(feature = "library")]
+use nt2_tests::ending::status;
 use nt2_tests::implementation::Library as Compared;
 #[cfg(not(feature = "library"))]
 use nt2_tests::implementation::Reference as Compared;
@@ -43,11 +44,5 @@ fn run() -> Result<(), String> {
 }
 
 fn main() -> ExitCode {
-    match run() {
-        Ok(()) => ExitCode::SUCCESS,
-        Err(failure) => {
-            eprintln!("differential: {failure}");
-            ExitCode::FAILURE
-        }
-    }
+    status("differential", run())
 }

@@ -4,6 +4,7 @@
 //! Argument: the program.
 
 use nt2_tests::acceptance::{folder, listing, listing_cases};
+use nt2_tests::ending::status;
 use nt2_tests::implementation::Reference;
 use std::io::Write;
 use std::process::{Command, ExitCode, Stdio};
@@ -42,11 +43,5 @@ fn run() -> Result<(), String> {
 }
 
 fn main() -> ExitCode {
-    match run() {
-        Ok(()) => ExitCode::SUCCESS,
-        Err(failure) => {
-            eprintln!("listing: {failure}");
-            ExitCode::FAILURE
-        }
-    }
+    status("listing", run())
 }
