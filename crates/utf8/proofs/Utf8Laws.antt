@@ -1,4 +1,4 @@
--- Laws of UTF-8 that loops over the bytes and blocks of them cite, and the marked texts.
+-- Laws of UTF-8 that loops over the bytes and blocks of them cite, the marked texts, and the edges of its rows.
 use mathlib.Core.Path.{_≡_, refl, sym, _∙_}
 use mathlib.Core.Bool.{Bool, true, _&&_, and-eq-true-iff}
 use mathlib.Core.List.{List, [], _∷_}
@@ -14,6 +14,7 @@ use lib.Seq.{drop-cons}
 use Rattle.field.specs.Choice.{pick}
 use Rattle.utf8.specs.Utf8.{afterFirst, afterByte, isBoundary, utf8From, isUtf8, Ascii}
 use Rattle.utf8.specs.MarkedTexts.{MarkedTextsHold}
+use Rattle.utf8.specs.Edges.{EdgesHold}
 use Rattle.utf8.specs.declared.Expected.{Expected}
 
 -- one byte further
@@ -59,3 +60,7 @@ ascii-both from middle behind to x y r s h first second e yes-r i l u = go (decL
 pub marked-texts : MarkedTextsHold
 unfolding isUtf8 utf8From afterByte afterFirst pick
 marked-texts = refl
+
+pub edges-hold : EdgesHold
+unfolding isUtf8 utf8From afterByte afterFirst pick
+edges-hold = refl

@@ -22,5 +22,9 @@ markedTexts =
     ∷ row [] true  -- "An empty name is an ordinary name."
     ∷ []
 
+-- of such a table the texts that are UTF-8 are those said to be
+abbrev pub Accepted : List MarkedText → Type 0
+Accepted table = map (λ (x : MarkedText). isUtf8 (x .bytes)) table ≡ map (λ (x : MarkedText). x .accepted) table
+
 abbrev pub MarkedTextsHold : Type 0
-MarkedTextsHold = map (λ (x : MarkedText). isUtf8 (x .bytes)) markedTexts ≡ map (λ (x : MarkedText). x .accepted) markedTexts
+MarkedTextsHold = Accepted markedTexts

@@ -95,8 +95,8 @@ fn both(a: bool, b: bool) -> bool
     if a { b } else { false }
 }
 
-// Whether 4, 8 and 16 bytes from a place on are each a character of their own. There is no loop and no way out, so the compiler looks
-// at them all at once.
+// True only where 4, 8 and 16 bytes from a place on are each a character of their own. There is no loop and no way out, so the compiler
+// looks at them all at once.
 fn are_4_ascii(s: &[u8], at: usize) -> bool
     requires { ⌜ at + 4 ≤ length (now s) ⌝ }
     ensures { λ r. ⌜ (r ≡ true → Ascii at (at + 4) (now (s .entry))) ⌝ }
@@ -119,7 +119,7 @@ fn are_16_ascii(s: &[u8], at: usize) -> bool
     both(are_8_ascii(s, at), are_8_ascii(s, at + 8))
 }
 
-// Whether all bytes below a place are: one pass with no way out, which the compiler does many bytes at a time.
+// True only where all bytes below a place are: one pass with no way out, which the compiler does many bytes at a time.
 fn are_ascii_below(s: &[u8], end: usize) -> bool
     requires { ⌜ end ≤ length (now s) ⌝ }
     ensures { λ r. ⌜ (r ≡ true → Ascii 0 end (now (s .entry))) ⌝ }
@@ -133,8 +133,8 @@ fn are_ascii_below(s: &[u8], end: usize) -> bool
     so_far
 }
 
-// Whether every byte is a character of its own. From 4 bytes on, a text under 32 is two blocks, which may overlap; a longer one is its last 32 bytes
-// and its whole 32s.
+// True only where every byte is a character of its own. From 4 bytes on, a text under 32 is two blocks, which may overlap; a longer one is
+// its last 32 bytes and its whole 32s.
 fn is_ascii(s: &[u8]) -> bool
     ensures { λ r. ⌜ (r ≡ true → Ascii 0 (length (now (s .entry))) (now (s .entry))) ⌝ }
 {
