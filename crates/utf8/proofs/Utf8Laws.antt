@@ -45,17 +45,20 @@ ascii-next from to next t r s n h e yes-r i l u = go (decLe (suc i) to)
         let at : i ≡ to = omega (arith, lt-of-not-le w, n, u) in
         rw at (leb-true (getD s to 0) 0x7F (parts .1))
 
--- two runs of them, of which the second begins within the first or right behind it
-pub ascii-both : (from middle behind to : ℕ) (x y r : Bool) (s : List ℕ) → behind ≤ middle → (x ≡ true → Ascii from middle s) → (y ≡ true → Ascii behind to s)
-    → r ≡ (x && y) → r ≡ true → Ascii from to s
-ascii-both from middle behind to x y r s h first second e yes-r i l u = go (decLe (suc i) middle)
+-- two runs of them, of which the second begins within the first or right behind it, as far as it reaches
+pub ascii-both : (from middle behind end to : ℕ) (x y r : Bool) (s : List ℕ) → (x ≡ true → Ascii from middle s) → (y ≡ true → Ascii behind end s) → r ≡ (x && y)
+    → behind ≤ middle
+    → to ≤ end
+    → r ≡ true
+    → Ascii from to s
+ascii-both from middle behind end to x y r s first second e meets reaches yes-r i l u = go (decLe (suc i) middle)
   where
     parts : (x ≡ true) × (y ≡ true)
     parts = and-eq-true-iff x y .0 (sym e ∙ yes-r)
 
     go : Dec (suc i ≤ middle) → getD s i 0 ≤ 0x7F
     go (yes w) = first (parts .0) i l w
-    go (no w) = second (parts .1) i (omega (arith, lt-of-not-le w, h)) u
+    go (no w) = second (parts .1) i (omega (arith, lt-of-not-le w, meets)) (omega (arith, u, reaches))
 
 pub marked-texts : MarkedTextsHold
 unfolding isUtf8 utf8From afterByte afterFirst pick

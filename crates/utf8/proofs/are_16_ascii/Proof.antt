@@ -23,11 +23,7 @@ returns c =
     let two = c .before in
     let one = two .before in
     let a = one .before .before .args in
-    let at = a .at in
-    ascii-both at (at + 8) (at + 8) (at + 16) (one .are-8-ascii .result) (two .are-8-ascii2 .result) (c .both .result) (a .s .now) (omega arith)
-    (one .are-8-ascii .ensures)
-    (λ t i l u. two .are-8-ascii2 .ensures t i (omega arith) (omega arith))
-    (c .both .ensures)
+    ascii-both (a .at) _ _ _ (a .at + 16) _ _ _ (a .s .now) (one .are-8-ascii .ensures) (two .are-8-ascii2 .ensures) (c .both .ensures) (omega arith) (omega arith)
 
 pub are-16-ascii-spec : {M : Type 1} → statement M
 are-16-ascii-spec =

@@ -34,7 +34,7 @@ loop-again : tie.Need-loop-again Inv-loop μ-loop
 loop-again c =
     let l = c .before .before .before in
     let s = l .before .before .args .s .now in
-    (omega arith, ascii-next 0 (l .loop .i) (l .loop .i + 1) (l .loop .so-far) (c .still-ascii .result) s (omega arith) (l .loop .inv .1) (c .still-ascii .ensures))
+    (omega arith, ascii-next 0 (l .loop .i) (l .loop .i + 1) _ _ s (omega arith) (l .loop .inv .1) (c .still-ascii .ensures))
 
 returns : tie.Need-returns Inv-loop μ-loop
 returns c = λ e j l u. c .before .loop .inv .1 e j l (omega arith)

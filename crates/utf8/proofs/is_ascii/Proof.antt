@@ -1,7 +1,7 @@
 -- `is_ascii` is true of ASCII only: blocks that meet or overlap reach from the first byte to the last.
 use mathlib.Core.Path.{sym}
 use mathlib.Core.Bool.{true, false≢true, and-true}
-use Prim.Native.Nat.{_-_, _*_, _/_}
+use Prim.Native.Nat.{_-_}
 use native.Mathlib.Omega.{arith}
 use lib.ListN.{length}
 use Rattle.utf8.proofs.Utf8Laws.{ascii-both}
@@ -29,10 +29,7 @@ returns-2 c =
     let two = c .before in
     let one = two .before in
     let s = one .before .before .before .before .args .s .now in
-    ascii-both 0 4 (length s - 4) (length s) (one .are-4-ascii .result) (two .are-4-ascii2 .result) (c .both .result) s (omega arith)
-    (one .are-4-ascii .ensures)
-    (λ t i l u. two .are-4-ascii2 .ensures t i (omega arith) (omega arith))
-    (c .both .ensures)
+    ascii-both 0 _ _ _ (length s) _ _ _ s (one .are-4-ascii .ensures) (two .are-4-ascii2 .ensures) (c .both .ensures) (omega arith) (omega arith)
 
 are-8-ascii-requires : tie.Need-are-8-ascii-requires
 are-8-ascii-requires c κs = search needs
@@ -48,10 +45,7 @@ returns-3 c =
     let two = c .before in
     let one = two .before in
     let s = one .before .before .before .before .before .args .s .now in
-    ascii-both 0 8 (length s - 8) (length s) (one .are-8-ascii .result) (two .are-8-ascii2 .result) (c .both2 .result) s (omega arith)
-    (one .are-8-ascii .ensures)
-    (λ t i l u. two .are-8-ascii2 .ensures t i (omega arith) (omega arith))
-    (c .both2 .ensures)
+    ascii-both 0 _ _ _ (length s) _ _ _ s (one .are-8-ascii .ensures) (two .are-8-ascii2 .ensures) (c .both2 .ensures) (omega arith) (omega arith)
 
 are-16-ascii-requires : tie.Need-are-16-ascii-requires
 are-16-ascii-requires c κs = search needs
@@ -67,10 +61,7 @@ returns-4 c =
     let two = c .before in
     let one = two .before in
     let s = one .before .before .before .before .before .before .args .s .now in
-    ascii-both 0 16 (length s - 16) (length s) (one .are-16-ascii .result) (two .are-16-ascii2 .result) (c .both3 .result) s (omega arith)
-    (one .are-16-ascii .ensures)
-    (λ t i l u. two .are-16-ascii2 .ensures t i (omega arith) (omega arith))
-    (c .both3 .ensures)
+    ascii-both 0 _ _ _ (length s) _ _ _ s (one .are-16-ascii .ensures) (two .are-16-ascii2 .ensures) (c .both3 .ensures) (omega arith) (omega arith)
 
 are-16-ascii-requires-3 : tie.Need-are-16-ascii-requires-3
 are-16-ascii-requires-3 c κs = search needs
@@ -95,16 +86,8 @@ returns-5 c =
     let one = two .before in
     let s = one .before .before .before .before .before .before .args .s .now in
     let n = length s in
-    let ends =
-    ascii-both (n - 32) (n - 16) (n - 16) n (one .are-16-ascii3 .result) (two .are-16-ascii4 .result) (w .both4 .result) s (omega arith)
-    (λ e i l u. one .are-16-ascii3 .ensures e i (omega arith) (omega arith))
-    (λ e i l u. two .are-16-ascii4 .ensures e i (omega arith) (omega arith))
-    (w .both4 .ensures)
-    (t .if5 .taken) in
-    ascii-both 0 (n / 32 * 32) (n - 32) n (c .are-ascii-below2 .result) true (c .are-ascii-below2 .result) s (omega arith)
-    (λ e i l u. c .are-ascii-below2 .ensures e i l (omega arith))
-    (λ e. ends)
-    (sym (and-true _))
+    let ends = ascii-both (n - 32) _ _ _ n _ _ _ s (one .are-16-ascii3 .ensures) (two .are-16-ascii4 .ensures) (w .both4 .ensures) (omega arith) (omega arith) (t .if5 .taken) in
+    ascii-both 0 _ (n - 32) n n _ true _ s (c .are-ascii-below2 .ensures) (λ e. ends) (sym (and-true (c .are-ascii-below2 .result))) (omega arith) (omega arith)
 
 returns-6 : tie.Need-returns-6
 returns-6 c = λ e. absurd (false≢true e)
