@@ -5,7 +5,7 @@ use Prim.Native.Nat.{_-_}
 use borrow.Author.Tests.{le-leb, lt-leb, not-true, not-false}
 use Rattle.field.specs.Choice.{pick}
 use Rattle.field.proofs.OctetsLaws.{rest-all}
-use Rattle.value.specs.Value.{parseElement, parseArray, parseValue}
+use Rattle.value.specs.Value.{arrayOf, parseElement, parseArray, parseValue}
 use borrow.Author.Needs.{needs}
 use Rattle.value.proofs.read_value.Statement.{statement}
 use Rattle.value.proofs.read_value.Tie as tie
@@ -65,7 +65,7 @@ unfolding parseValue pick
 returns-3 c =
     let w = c .before .before in
     let a = w .before .before .before .before .args in
-    rw (lt-leb _ _ (w .before .before .if1 .left), ← (w .before .known-type .ensures), not-false (w .before .known-type .result) (w .if2 .left)) (c .read-array .ensures ∙ ap (parseArray (a .t - 0x10)) (rest-all 0 (a .s .now)))
+    rw (lt-leb _ _ (w .before .before .if1 .left), ← (w .before .known-type .ensures), not-false (w .before .known-type .result) (w .if2 .left)) (c .read-array .ensures ∙ ap (parseArray (a .t - arrayOf)) (rest-all 0 (a .s .now)))
 
 pub read-value-spec : {M : Type 1} → statement M
 read-value-spec =
