@@ -11,11 +11,11 @@ use borrow.Author.Tests.{leb-true, leb-false, lt-ltb, le-ltb, eq-eqb, ne-eqb, eq
 use Rattle.field.specs.Choice.{pick}
 use Rattle.field.proofs.ChoiceLaws.{pick-true, pick-false}
 use Rattle.protocol.specs.Step.{ServerMemory, CallResult}
+use Rattle.protocol.proofs.ProgressLaws.{call-progress}
 use Rattle.listing.specs.Listing.{headText, lineOf, endText, messageStep, messagesText, listingStart, streamSize, streamOf, listingOn}
 use Rattle.digits.specs.Put.{Put}
 use Rattle.digits.proofs.PutLaws.{put-next}
 use Rattle.field.proofs.ChoiceLaws.{pick-cong}
-use Rattle.listing.proofs.StepLaws.{message-takes}
 
 -- what stands behind a message's line
 abbrev restText : ℕ → ℕ → CallResult → List ℕ → List ℕ
@@ -118,7 +118,7 @@ module _ {stream : List ℕ} {mem₀ : ServerMemory} {out₀ buffer : List ℕ} 
 
 -- a message takes no more than what is left of the stream
 pub step-fits : (stream : List ℕ) (mem : ServerMemory) (out : List ℕ) (offset : ℕ) (r : CallResult) → r ≡ messageStep mem out (drop offset stream) → r .taken ≤ length stream - offset
-step-fits stream mem out offset r e = rw e (omega (arith, message-takes 64 0 mem out (drop offset stream), length-drop offset stream))
+step-fits stream mem out offset r e = rw e (omega (arith, call-progress 64 mem 0 (drop offset stream) out .takes-there, length-drop offset stream))
 
 -- the part of the input that is lent
 pub stream-part : (n : ℕ) (input : List ℕ) → n ≡ min streamSize (length input) → take (n - 0) input ≡ streamOf input

@@ -1,6 +1,7 @@
 pub mod JudgeLaws
 pub mod SoundnessLaws
 pub mod AnswerLaws
+pub mod ProgressLaws
 pub mod MessageLaws
 pub mod TakenLaws
 pub mod ReadLaws

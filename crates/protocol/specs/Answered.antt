@@ -1,12 +1,14 @@
 -- "Numbers a call answers with": what every call's answer is, whatever lent memory holds.
-use Prim.Native.Nat.{ℕ, _≤_}
+use Prim.Native.Nat.{ℕ, _+_, _≤_}
 use mathlib.Core.List.{List}
 use mathlib.Core.Path.{_≡_}
 use mathlib.Core.Logic.{_≢_, _⊎_}
-use lib.ListN.{length}
+use lib.ListN.{length, drop}
 use Rattle.field.specs.Answer.{done, ignored, RefusalNumber}
+use Rattle.message.specs.Layout.{revisionLength}
 use Rattle.table.specs.Table.{TableMemory}
-use Rattle.protocol.specs.Judge.{readEntry}
+use Rattle.hello.specs.Hello.{longestHello}
+use Rattle.protocol.specs.Judge.{clientMessage, readEntry}
 use Rattle.protocol.specs.Step.{ServerMemory, LentCall, CallResult, callStep, readScalar, numberOf}
 use Rattle.protocol.specs.Copy.{CopyResult, copyMessage}
 
@@ -19,6 +21,22 @@ pub record RightlyAnswered (mem : ServerMemory) (out : List ℕ) (r : CallResult
 
 abbrev pub CallAnswered : Type 0
 CallAnswered = (limit : ℕ) (mem : ServerMemory) (k : LentCall) → RightlyAnswered mem (k .output) (callStep limit mem k)
+
+-- a client's message: what is taken is there, and some of it where the answer is 0 or 16; with 0 some bytes are sent, for which there is room, and
+-- no more than the longest answer to a hello has (or a revision, where the limit is 0); the output behind them is as it was lent
+pub record MessageProgress (limit : ℕ) (message out : List ℕ) (r : CallResult) : Type 0 where
+  pub takes-there : r .taken ≤ length message
+  pub takes-some : (r .number ≡ done) ⊎ (r .number ≡ ignored) → 1 ≤ r .taken
+  pub sends-some : r .number ≡ done → 1 ≤ r .sent
+  pub sends-room : r .sent ≤ length out
+  pub sends-most : r .sent ≤ longestHello limit + revisionLength
+  pub output-length : length (r .output) ≡ length out
+  pub output-rest : drop (r .sent) (r .output) ≡ drop (r .sent) out
+
+abbrev pub CallProgress : Type 0
+CallProgress =
+    (limit : ℕ) (mem : ServerMemory) (c : ℕ) (message out : List ℕ)
+    → MessageProgress limit message out (callStep limit mem (record { call = clientMessage c message; output = out }))
 
 -- "Reading an entry by ID" is a call that answers the number of the scalar that is read, and nothing changes
 abbrev pub ReadAnswered : Type 0
