@@ -16,11 +16,12 @@ ghost use Rattle.table.specs.Table.{lent, maxEntries};
 ghost use Rattle.soundness.specs.Sound.{soundTable, soundMarks, closed, connections};
 ghost use Rattle.protocol.specs.Judge.{openConnection, leave, clientMessage, localCreate, localWrite, readEntry};
 ghost use Rattle.protocol.specs.Step.{callStep, freshStart, readScalar, numberOf};
+ghost use Rattle.protocol.specs.Kept.{SoundMemory};
 ghost use Rattle.protocol.specs.Place.{stepWithPlace};
 ghost use Rattle.protocol.specs.Lent.{lentServer, lentCall, answered};
 
 // Whether the table and the marks are sound. Heads and bytes go on as parts of themselves (docs/DECISIONS.md, Speed).
-fn is_sound(heads: &[u16], bytes: &[u8], count: u16, marks: &[u8]) -> bool
+pub fn is_sound(heads: &[u16], bytes: &[u8], count: u16, marks: &[u8]) -> bool
     ensures { λ r.
         ⌜ r ≡ (soundTable maxEntries (lent (heads .entry) (bytes .entry) count) && soundMarks (now (marks .entry))) ⌝ }
 {
@@ -101,6 +102,26 @@ pub fn leave_connection(
 
 // ---- messages, and calls of the plant's own code
 
+// One message of a client, on memory that is known to be sound.
+pub fn receive_when_sound(
+    heads: &mut [u16],
+    bytes: &mut [u8],
+    count: &mut u16,
+    marks: &mut [u8],
+    c: usize,
+    m: &[u8],
+    out: &mut [u8],
+) -> Answer
+    requires { ⌜ SoundMemory maxEntries (lentServer heads bytes (now count) marks) ⌝ }
+    ensures { λ r.
+        ⌜ answered r (lentServer (heads .exit) (bytes .exit) (now (count .exit)) (marks .exit)) (now (out .exit))
+        ≡ stepWithPlace maxEntries (lentServer (heads .entry) (bytes .entry) (now (count .entry)) (marks .entry))
+        (lentCall (clientMessage c (now (m .entry))) (out .entry)) ⌝ }
+{
+    let decision = judge::judge_client_message(heads, bytes, *count, marks, c, m);
+    perform::perform(heads, bytes, count, marks, c, m, decision, out)
+}
+
 // One message of a client.
 pub fn receive(
     heads: &mut [u16],
@@ -119,8 +140,7 @@ pub fn receive(
     if !is_sound(heads, bytes, *count, marks) {
         return answer::unsound();
     }
-    let decision = judge::judge_client_message(heads, bytes, *count, marks, c, m);
-    perform::perform(heads, bytes, count, marks, c, m, decision, out)
+    receive_when_sound(heads, bytes, count, marks, c, m, out)
 }
 
 // Local create: an entry of the plant's own code.

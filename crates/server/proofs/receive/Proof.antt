@@ -1,4 +1,4 @@
--- `receive` is the step of a client's message: soundness decides, then the verdict is performed.
+-- `receive` is the step of a client's message: soundness decides first.
 use borrow.Author.Tests.{not-true}
 use Rattle.field.specs.Choice.{pick}
 use Rattle.table.specs.Table.{TableMemory, tableMemory}
@@ -38,16 +38,9 @@ returns : tie.Need-returns
 unfolding callStep callPlace pick
 returns c = rw (c .unsound .ensures, ← (c .before .before .is-sound .ensures), not-true (c .before .before .is-sound .result) (c .before .if1 .taken))
 
-judge-client-message-requires : tie.Need-judge-client-message-requires
+receive-when-sound-requires : tie.Need-receive-when-sound-requires
 unfolding to-start
-judge-client-message-requires c κs = let h = sound (c .before .before .before) in (h .table-is, h .marks-there)
-
-perform-requires : tie.Need-perform-requires
-unfolding to-start
-perform-requires c κs =
-    let j = c .before .before .before .before .before in
-    let h = sound (j .before .before .before .before) in
-    (h .table-is, (h .marks-there, j .judge-client-message .ensures .performable))
+receive-when-sound-requires c κs = sound (c .before .before .before .before .before) .memory-is
 
 same-length-4 : tie.Need-same-length-4
 same-length-4 c = search needs
@@ -62,12 +55,7 @@ same-length-7 : tie.Need-same-length-7
 same-length-7 c = search needs
 
 returns-2 : tie.Need-returns-2
-unfolding callStep callPlace pick to-start
-returns-2 c =
-    let k = c .before .before .before .before .before .before .before .before in
-    let j = k .before .before .before .before .before .before in
-    let e = j .before .before .before .before in
-    rw (sound e .both, ← (j .judge-client-message .ensures .verdict)) (k .perform .ensures)
+returns-2 c = search needs
 
 pub receive-spec : {M : Type 1} → statement M
 receive-spec =
@@ -79,8 +67,7 @@ receive-spec =
     same-length-2
     same-length-3
     returns
-    judge-client-message-requires
-    perform-requires
+    receive-when-sound-requires
     same-length-4
     same-length-5
     same-length-6
