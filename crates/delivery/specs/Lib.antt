@@ -1,0 +1,4 @@
+pub mod Delivery
+pub mod Sent
+pub mod Tells
+pub mod Demand
