@@ -20,7 +20,7 @@ use Rattle.nt2.proofs.Results.{tooFew, copiedNothing, readNothing}
 use Rattle.flat.specs.Answers.{scalarAnswer}
 
 module _ (heads bytes : List ℕ) (count : ℕ) (few : length heads < headNumbers) where
-  table-few : soundTable maxEntries (tableMemory heads bytes count) ≡ false
+  pub table-few : soundTable maxEntries (tableMemory heads bytes count) ≡ false
   unfolding soundTable largeEnough
   table-few = rw (lt-leb headNumbers (length heads) few)
 

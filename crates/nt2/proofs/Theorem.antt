@@ -82,7 +82,7 @@ module _ (copy : HeadsTable) (bytes : List ℕ) (end : TableMemory) (all : Reads
       → headsCopied r after ≡ headsCopyMessage m left → ((r .number ≡ done) ⊎ (r .number ≡ ignored)) × (0 < r .taken) × (r .taken ≤ length left)
   each-right {m} {left} reading h r after e = let n = call-next m after left r (still reading) h e in (n .right, n .some .0, n .some .1)
 
-  to-same : (server : HeadsServer) → SameEntries end (tableOf (server .table)) → ReadsToSameEntries copy bytes server
+  pub to-same : (server : HeadsServer) → SameEntries end (tableOf (server .table)) → ReadsToSameEntries copy bytes server
   to-same server same = record { each = each-right; end = λ reading. rw (one-end maxEntries _ _ _ _ none-left (still reading)) same }
 
 -- ---- the theorem
