@@ -2,7 +2,8 @@
  *
  * The caller lends all memory. A slice is lent as pointer and length; the slices of one call do not
  * overlap, and no pointer is null. A call stays within them, keeps none of them and always returns.
- * A refusal (1 to 14) changes nothing. A field that an answer does not use is 0 (false).
+ * A refusal (1 to 14) changes nothing; of a delivery the messages before the refused one stand. A
+ * field that an answer does not use is 0 (false).
  */
 #ifndef NT2_H
 #define NT2_H
@@ -25,7 +26,9 @@ enum {
     NT2_CONNECTIONS = 16,
     NT2_LONGEST_ASSIGNMENT = 328,
     NT2_LONGEST_UPDATE = 261,
-    NT2_LONGEST_HELLO_ANSWER = 20993
+    NT2_LONGEST_HELLO_ANSWER = 20993,
+    NT2_HEADING = 6,           /* before each message that a delivery writes */
+    NT2_DELIVERY_MESSAGES = 64 /* at most, in one delivery */
 };
 
 /* Numbers that a call answers with. */
@@ -74,6 +77,9 @@ enum { NT2_CLOSED = 0, NT2_OPEN = 1, NT2_GREETED = 2 };
 /* What a scalar's `found` says. */
 enum { NT2_FOUND_BOOLEAN = 0, NT2_FOUND_DOUBLE = 1, NT2_FOUND_NEITHER = 2 };
 
+/* How a delivery ended. */
+enum { NT2_ENDED_REFUSED = 0, NT2_ENDED_SPENT = 1, NT2_ENDED_MOST = 2 };
+
 /* One entry head. */
 typedef struct {
     uint16_t name_length;
@@ -91,6 +97,7 @@ typedef struct {
  *       left after a lone value
  * It is 0 for a lent name, which has no length before it, and for a type given as a number. With
  * every other number it is 0.
+ * In a delivery it counts from the start of the refused message.
  *
  * With a name and a value (nt2_create, and nt2_encode of an assignment), 9 at 0 is the name's, 10 is
  * the name's if that is longer than 64 bytes, and all else but 7 is the value's.
@@ -104,6 +111,20 @@ typedef struct {
     size_t sent;
     size_t place;
 } nt2_answer;
+
+/* What came of a delivery: how it ended, the messages taken, which are the done and the ignored ones,
+ * their bytes, the bytes written, and with NT2_ENDED_REFUSED the number and the place of the message
+ * that was refused. What the messages before it did stands and is reported too. With
+ * NT2_ENDED_SPENT no input is left, with NT2_ENDED_MOST some is; the number is then 0.
+ */
+typedef struct {
+    uint8_t number;
+    uint8_t ended;
+    size_t messages;
+    size_t taken;
+    size_t written;
+    size_t place;
+} nt2_delivered;
 
 /* An entry's value as a flag or a number. A NaN is answered as some NaN. */
 typedef struct {
@@ -155,6 +176,21 @@ nt2_answer nt2_receive(nt2_head *heads, size_t heads_length, uint8_t *bytes, siz
                        uint16_t *count, uint8_t *marks, size_t marks_length, size_t connection,
                        const uint8_t *message, size_t message_length, uint8_t *out,
                        size_t out_length);
+
+/* Takes a client's messages in order, each as nt2_receive does, until one is refused, no input is left
+ * or 64 are taken. The table is judged once. NT2_UNSOUND, NT2_NO_SUCH_CONNECTION and, for a closed
+ * connection, NT2_STATE come first, without input too.
+ *
+ * The output has, for each message done and in their order, a heading and the bytes to be sent. The
+ * heading is the recipients (2 bytes) and the number of these bytes (4), both big endian. A message
+ * is refused with NT2_ROOM if heading and bytes together do not fit; one that is ignored needs no
+ * room. NT2_HEADING + NT2_LONGEST_HELLO_ANSWER bytes are enough for any first message, so that the
+ * rest of the input can follow in a further delivery. The output past `written` is unchanged.
+ */
+nt2_delivered nt2_deliver(nt2_head *heads, size_t heads_length, uint8_t *bytes,
+                          size_t bytes_length, uint16_t *count, uint8_t *marks,
+                          size_t marks_length, size_t connection, const uint8_t *input,
+                          size_t input_length, uint8_t *out, size_t out_length);
 
 /* Creates an entry for the plant's own code. */
 nt2_answer nt2_create(nt2_head *heads, size_t heads_length, uint8_t *bytes, size_t bytes_length,

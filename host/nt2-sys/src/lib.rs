@@ -4,6 +4,8 @@
 
 #![no_std]
 
+use core::iter;
+
 /// Entries of a table.
 pub const ENTRIES: usize = 64;
 /// Bytes of the longest name.
@@ -22,6 +24,10 @@ pub const LONGEST_ASSIGNMENT: usize = 8 + NAME_ROOM + VALUE_ROOM;
 pub const LONGEST_UPDATE: usize = 5 + VALUE_ROOM;
 /// Bytes of the longest answer to a hello.
 pub const LONGEST_HELLO_ANSWER: usize = ENTRIES * LONGEST_ASSIGNMENT + 1;
+/// Bytes of the heading before each message that a delivery writes.
+pub const HEADING: usize = 6;
+/// Messages of a delivery at most.
+pub const DELIVERY_MESSAGES: usize = 64;
 
 /// `nt2_head`: one entry head.
 #[repr(C)]
@@ -46,6 +52,39 @@ pub struct Answer {
     pub taken: usize,
     pub sent: usize,
     pub place: usize,
+}
+
+/// `nt2_delivered`: what came of a delivery. With a refusal it tells what was done before it too, and
+/// its `place`, which is as in [`Answer`], counts from the refused message's first byte.
+#[repr(C)]
+#[derive(Clone, Copy, Debug, Default, PartialEq, Eq)]
+pub struct Delivered {
+    pub number: u8,
+    pub ended: u8,
+    pub messages: usize,
+    pub taken: usize,
+    pub written: usize,
+    pub place: usize,
+}
+
+/// What `ended` says.
+impl Delivered {
+    /// A message was refused.
+    pub const REFUSED: u8 = 0;
+    /// No input is left.
+    pub const SPENT: u8 = 1;
+    /// The most messages were taken, and input is left.
+    pub const MOST: u8 = 2;
+}
+
+/// What a delivery wrote: the recipients of each heading, and the bytes behind it.
+pub fn headed(mut written: &[u8]) -> impl Iterator<Item = (u16, &[u8])> {
+    iter::from_fn(move || {
+        let (&[r, s, a, b, c, d], rest) = written.split_first_chunk::<HEADING>()?;
+        let (bytes, rest) = rest.split_at(u32::from_be_bytes([a, b, c, d]) as usize);
+        written = rest;
+        Some((u16::from_be_bytes([r, s]), bytes))
+    })
 }
 
 /// `nt2_scalar`: `found` is 0 for a Boolean, 1 for a Double, 2 for neither, and 0 with a refusal.
@@ -98,7 +137,7 @@ pub use functions::*;
 
 #[cfg(feature = "link")]
 mod functions {
-    use crate::{Answer, Copied, Fields, Head, Scalar};
+    use crate::{Answer, Copied, Delivered, Fields, Head, Scalar};
 
     unsafe extern "C" {
         pub fn nt2_fresh(
@@ -147,6 +186,21 @@ mod functions {
             out: *mut u8,
             out_length: usize,
         ) -> Answer;
+
+        pub fn nt2_deliver(
+            heads: *mut Head,
+            heads_length: usize,
+            bytes: *mut u8,
+            bytes_length: usize,
+            count: *mut u16,
+            marks: *mut u8,
+            marks_length: usize,
+            connection: usize,
+            input: *const u8,
+            input_length: usize,
+            out: *mut u8,
+            out_length: usize,
+        ) -> Delivered;
 
         pub fn nt2_create(
             heads: *mut Head,
@@ -230,6 +284,7 @@ mod functions {
 const _: () = {
     assert!(size_of::<Head>() == 8);
     assert!(size_of::<Answer>() == 32);
+    assert!(size_of::<Delivered>() == 40);
     assert!(size_of::<Scalar>() == 16);
     assert!(size_of::<Copied>() == 24);
     assert!(size_of::<Fields>() == 48);
