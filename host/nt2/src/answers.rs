@@ -4,12 +4,12 @@ use crate::number::{
     ASSIGNMENT_ID, DONE, FULL, IGNORED, INCOMPLETE, KIND, NAME_HELD, NO_SUCH_CONNECTION,
     NOT_BOOLEAN, NOT_TEXT, ROOM, STATE, TOO_LONG, TYPE, UNKNOWN_ID, UNSOUND,
 };
-use nt2_sys::{Answer, NAME_ROOM};
+use nt2_sys::{Answer, Delivered, NAME_ROOM, headed};
 use std::error::Error;
 use std::fmt;
 
-/// Why a call was refused; for a bad type, Boolean, text or length with its place. The call changed no
-/// memory.
+/// Why a call, or a message of a delivery, was refused; for a bad type, Boolean, text or length with
+/// its place. It changed no memory.
 #[derive(Clone, Copy, Debug, PartialEq, Eq, Hash)]
 pub enum Refusal {
     /// Message or value not complete.
@@ -164,8 +164,12 @@ pub(crate) fn is_done(number: u8, place: Option<Place>) -> Result<bool, Refusal>
     match number {
         DONE => Ok(true),
         IGNORED => Ok(false),
-        number => Err(Refusal::of(number, place).expect("a number of the build description")),
+        number => Err(refusal(number, place)),
     }
+}
+
+fn refusal(number: u8, place: Option<Place>) -> Refusal {
+    Refusal::of(number, place).expect("a number of the build description")
 }
 
 /// A set of connections.
@@ -199,6 +203,47 @@ pub struct Sent<'a> {
 pub enum Received<'a> {
     Done { taken: usize, sent: Sent<'a> },
     Ignored { taken: usize },
+}
+
+/// How a delivery ended.
+#[derive(Clone, Copy, Debug, PartialEq, Eq)]
+pub enum Ended {
+    /// No input is left.
+    Spent,
+    /// [`DELIVERY_MESSAGES`](crate::DELIVERY_MESSAGES) were taken, and input is left.
+    Most,
+    /// The next message was refused. A place counts from that message's start.
+    Refused(Refusal),
+}
+
+/// What came of a delivery. The messages before a refused one stand, and what they send is here.
+#[derive(Clone, Copy, Debug, PartialEq, Eq)]
+#[must_use = "the messages taken may have sent something, whether or not one was refused"]
+pub struct Delivery<'a> {
+    pub ended: Ended,
+    /// Messages taken: those done and those ignored.
+    pub messages: usize,
+    /// Bytes of the messages taken.
+    pub taken: usize,
+    written: &'a [u8],
+}
+
+impl<'a> Delivery<'a> {
+    pub(crate) fn of(delivered: Delivered, out: &'a [u8]) -> Self {
+        let Delivered { number, ended, messages, taken, written, place } = delivered;
+        let ended = match ended {
+            Delivered::SPENT => Ended::Spent,
+            Delivered::MOST => Ended::Most,
+            _ => Ended::Refused(refusal(number, Some(Place::Message(place)))),
+        };
+        Delivery { ended, messages, taken, written: &out[..written] }
+    }
+
+    /// What each message that was done sends, in their order.
+    pub fn sent(self) -> impl Iterator<Item = Sent<'a>> {
+        let sent = |(recipients, bytes)| Sent { bytes, recipients: Recipients(recipients) };
+        headed(self.written).map(sent)
+    }
 }
 
 /// A local write that was accepted; one of an equal value is ignored.

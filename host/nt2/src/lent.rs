@@ -1,8 +1,9 @@
 //! The calls over lent memory of any size, which judge it themselves.
 
 use nt2_sys::{
-    Answer, Copied, Fields, Head, LentTable, Scalar, nt2_copy_fresh, nt2_copy_receive, nt2_create,
-    nt2_decode, nt2_encode, nt2_fresh, nt2_leave, nt2_open, nt2_read, nt2_receive, nt2_write,
+    Answer, Copied, Delivered, Fields, Head, LentTable, Scalar, nt2_copy_fresh, nt2_copy_receive,
+    nt2_create, nt2_decode, nt2_deliver, nt2_encode, nt2_fresh, nt2_leave, nt2_open, nt2_read,
+    nt2_receive, nt2_write,
 };
 
 // SAFETY of all calls: each pointer stands beside the length of the slice that it comes from, no
@@ -75,6 +76,32 @@ pub fn receive(
             connection,
             message.as_ptr(),
             message.len(),
+            out.as_mut_ptr(),
+            out.len(),
+        )
+    }
+}
+
+/// Takes a client's messages in order, at most 64 of them.
+pub fn deliver(
+    table: LentTable<'_>,
+    marks: &mut [u8],
+    connection: usize,
+    input: &[u8],
+    out: &mut [u8],
+) -> Delivered {
+    unsafe {
+        nt2_deliver(
+            table.heads.as_mut_ptr(),
+            table.heads.len(),
+            table.bytes.as_mut_ptr(),
+            table.bytes.len(),
+            table.count,
+            marks.as_mut_ptr(),
+            marks.len(),
+            connection,
+            input.as_ptr(),
+            input.len(),
             out.as_mut_ptr(),
             out.len(),
         )

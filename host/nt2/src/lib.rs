@@ -23,6 +23,26 @@
 //! # Ok::<(), nt2::Refusal>(())
 //! ```
 //!
+//! [`ServerTable::deliver`] takes all messages of a client's bytes in one call. What those before a
+//! refused one have done stands, and is sent:
+//!
+//! ```
+//! use nt2::{Ended, HEADING, LONGEST_HELLO_ANSWER, Refusal, ServerTable};
+//!
+//! let mut out = [0; HEADING + LONGEST_HELLO_ANSWER];
+//! let mut table = ServerTable::new();
+//! table.open(3)?;
+//! // A hello, a keep alive, a new entry and half of a message.
+//! let input = b"\x01\x02\x00\x00\x10\x00\x04tare\x00\xFF\xFF\x00\x00\x01\x11\x00";
+//! let delivery = table.deliver(3, input, &mut out);
+//! assert_eq!(delivery.ended, Ended::Refused(Refusal::Incomplete));
+//! assert_eq!((delivery.messages, &input[delivery.taken..]), (3, &b"\x11\x00"[..]));
+//! let sent: Vec<_> = delivery.sent().map(|sent| (sent.recipients.0, sent.bytes)).collect();
+//! let assigned = b"\x10\x00\x04tare\x00\x00\x00\x00\x01\x01";
+//! assert_eq!(sent, [(1 << 3, &b"\x03"[..]), (1 << 3, assigned)]);
+//! # Ok::<(), nt2::Refusal>(())
+//! ```
+//!
 //! A [`Refusal`] says what is wrong and, of a bad type, Boolean, text or length, where it stands:
 //!
 //! ```
@@ -43,12 +63,14 @@ mod message;
 mod number;
 mod server;
 
-pub use answers::{Copied, Place, Received, Recipients, Refusal, Scalar, Sent, Written};
+pub use answers::{
+    Copied, Delivery, Ended, Place, Received, Recipients, Refusal, Scalar, Sent, Written,
+};
 pub use copy::CopyTable;
 pub use memory::Entry;
 pub use message::{Message, Type, decode, encode};
 pub use nt2_sys::{
-    CONNECTIONS, ENTRIES, LONGEST_ASSIGNMENT, LONGEST_HELLO_ANSWER, LONGEST_UPDATE, NAME_ROOM,
-    VALUE_ROOM,
+    CONNECTIONS, DELIVERY_MESSAGES, ENTRIES, HEADING, LONGEST_ASSIGNMENT, LONGEST_HELLO_ANSWER,
+    LONGEST_UPDATE, NAME_ROOM, VALUE_ROOM,
 };
 pub use server::{ServerTable, State};

@@ -1,6 +1,8 @@
 //! The server half.
 
-use crate::answers::{Place, Received, Recipients, Refusal, Scalar, Sent, Written, is_done};
+use crate::answers::{
+    Delivery, Place, Received, Recipients, Refusal, Scalar, Sent, Written, is_done,
+};
 use crate::lent;
 use crate::memory::{Entry, Memory};
 use crate::message::Type;
@@ -62,6 +64,23 @@ impl ServerTable {
         } else {
             Received::Ignored { taken }
         })
+    }
+
+    /// Takes the messages of a client's bytes in order, each as [`receive`](Self::receive) does, until
+    /// one is refused, none is left or [`DELIVERY_MESSAGES`](crate::DELIVERY_MESSAGES) are taken. The
+    /// table is judged once for all of them, so this costs far less than single calls.
+    ///
+    /// What a message sends stands in the output behind a heading of [`HEADING`](crate::HEADING)
+    /// bytes. An output of that and [`LONGEST_HELLO_ANSWER`](crate::LONGEST_HELLO_ANSWER) has room
+    /// for any message, so one that has no room behind others has it in the next delivery.
+    pub fn deliver<'a>(
+        &mut self,
+        connection: usize,
+        input: &[u8],
+        out: &'a mut [u8],
+    ) -> Delivery<'a> {
+        let delivered = lent::deliver(self.memory.lend(), &mut self.marks, connection, input, out);
+        Delivery::of(delivered, out)
     }
 
     /// Creates an entry for the plant's own code.

@@ -1,8 +1,9 @@
 //! The build description's example and a copy, by the owned tables.
 
 use nt2::{
-    Copied, CopyTable, LONGEST_HELLO_ANSWER, Message, Place, Received, Recipients, Refusal, Scalar,
-    ServerTable, State, Type, Written, decode, encode,
+    Copied, CopyTable, DELIVERY_MESSAGES, Delivery, Ended, HEADING, LONGEST_HELLO_ANSWER, Message,
+    Place, Received, Recipients, Refusal, Scalar, ServerTable, State, Type, Written, decode,
+    encode,
 };
 
 const STREAM: [u8; 26] = [
@@ -13,8 +14,7 @@ const STREAM: [u8; 26] = [
 #[test]
 fn listing_example() {
     let mut out = vec![0; LONGEST_HELLO_ANSWER];
-    let mut table = ServerTable::new();
-    table.open(0).unwrap();
+    let mut table = opened();
     let (mut rest, mut lines) = (&STREAM[..], Vec::new());
     while !rest.is_empty() {
         let (taken, line) = match table.receive(0, rest, &mut out).unwrap() {
@@ -28,6 +28,89 @@ fn listing_example() {
     }
     assert_eq!(lines, [(3, 0, 1, 1), (10, 0, 1, 10), (6, 0, 0, 6), (6, 16, 0, 0), (1, 16, 0, 0)]);
     assert_eq!((table.count(), table.state(0)), (1, Some(State::Greeted)));
+}
+
+/// A table with connection 0 open.
+fn opened() -> ServerTable {
+    let mut table = ServerTable::new();
+    table.open(0).unwrap();
+    table
+}
+
+/// What a delivery sends: recipients and bytes.
+fn sent(delivery: Delivery<'_>) -> Vec<(u16, &[u8])> {
+    delivery.sent().map(|sent| (sent.recipients.0, sent.bytes)).collect()
+}
+
+/// What the example's first three messages send.
+const EXAMPLE_SENT: [(u16, &[u8]); 3] =
+    [(1, b"\x03"), (1, b"\x10\0\x01a\0\0\0\0\x01\x01"), (0, b"\x11\0\0\0\x02\0")];
+
+#[test]
+fn listing_example_as_a_delivery() {
+    let mut out = [0; HEADING + LONGEST_HELLO_ANSWER];
+    let mut table = opened();
+    let delivery = table.deliver(0, &STREAM, &mut out);
+    assert_eq!((delivery.ended, delivery.messages, delivery.taken), (Ended::Spent, 5, 26));
+    assert_eq!(sent(delivery), EXAMPLE_SENT);
+    assert_eq!((table.count(), table.state(0)), (1, Some(State::Greeted)));
+}
+
+#[test]
+fn delivery_ends_at_a_refusal_and_what_came_before_stands() {
+    let mut out = [0; HEADING + LONGEST_HELLO_ANSWER];
+    let mut table = opened();
+    let input = [&STREAM[..13], b"\x10\0\x02a\xFF", &STREAM[13..]].concat();
+    let delivery = table.deliver(0, &input, &mut out);
+    assert_eq!(delivery.ended, Ended::Refused(Refusal::Text(Place::Message(3))));
+    assert_eq!((delivery.messages, delivery.taken), (2, 13));
+    assert_eq!(sent(delivery), EXAMPLE_SENT[..2]);
+    assert_eq!((table.count(), table.state(0)), (1, Some(State::Greeted)));
+}
+
+#[test]
+fn delivery_goes_on_where_there_was_no_room() {
+    // Room for the hello's answer and the new entry, and for all but a byte of the update.
+    let mut out = [0; 3 * HEADING + 1 + 10 + 5];
+    let mut table = opened();
+    let delivery = table.deliver(0, &STREAM, &mut out);
+    assert_eq!((delivery.ended, delivery.taken), (Ended::Refused(Refusal::Room), 13));
+    assert_eq!(sent(delivery), EXAMPLE_SENT[..2]);
+    let delivery = table.deliver(0, &STREAM[13..], &mut out);
+    assert_eq!((delivery.ended, delivery.messages), (Ended::Spent, 3));
+    assert_eq!(sent(delivery), EXAMPLE_SENT[2..]);
+    // Those that are ignored need none.
+    let delivery = table.deliver(0, &STREAM[19..], &mut []);
+    assert_eq!((delivery.ended, delivery.messages), (Ended::Spent, 2));
+}
+
+#[test]
+fn delivery_has_a_number_of_messages() {
+    let keep_alives = [0; DELIVERY_MESSAGES + 1];
+    let mut table = opened();
+    for (length, ended) in
+        [(0, Ended::Spent), (DELIVERY_MESSAGES, Ended::Spent), (DELIVERY_MESSAGES + 1, Ended::Most)]
+    {
+        let delivery = table.deliver(0, &keep_alives[..length], &mut []);
+        let taken = length.min(DELIVERY_MESSAGES);
+        assert_eq!((delivery.ended, delivery.messages, delivery.taken), (ended, taken, taken));
+    }
+}
+
+#[test]
+fn delivery_of_a_connection_that_is_closed() {
+    let mut out = [0; 100];
+    let mut table = opened();
+    for input in [&[][..], &STREAM] {
+        let closed = table.deliver(1, input, &mut out);
+        assert_eq!((closed.ended, closed.messages), (Ended::Refused(Refusal::State), 0));
+        let no_such = table.deliver(16, input, &mut out);
+        assert_eq!(no_such.ended, Ended::Refused(Refusal::NoSuchConnection));
+    }
+    // A hello for another revision closes it.
+    let other = table.deliver(0, &[0x01, 0x03, 0x00, 0x00], &mut out);
+    assert_eq!((other.ended, other.taken), (Ended::Refused(Refusal::State), 3));
+    assert_eq!(sent(other), [(1, &[0x02, 0x02, 0x00][..])]);
 }
 
 #[test]
