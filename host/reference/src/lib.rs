@@ -11,7 +11,7 @@ mod table;
 mod wire;
 
 use nt2_sys::{Answer, Copied, Fields, LentTable, Scalar};
-pub use server::{create, fresh, leave, open, receive, write};
+pub use server::{create, deliver, fresh, leave, open, receive, write};
 use table::Table;
 use wire::{
     ASSIGNMENT, Assignment, Fault, HELLO, HELLO_COMPLETE, Judged, KEEP_ALIVE, Reader, Refusal,

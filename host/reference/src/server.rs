@@ -2,11 +2,12 @@
 
 use crate::table::Table;
 use crate::wire::{
-    ASSIGNMENT, HELLO, HELLO_COMPLETE, Judged, KEEP_ALIVE, NO_ID, REVISION, Reader, Refusal, Type,
-    UNSUPPORTED, UPDATE, check_name, check_value, equal_values, write_revision, write_update,
+    ASSIGNMENT, Fault, HELLO, HELLO_COMPLETE, Judged, KEEP_ALIVE, NO_ID, REVISION, Reader, Refusal,
+    Type, UNSUPPORTED, UPDATE, check_name, check_value, equal_values, write_heading,
+    write_revision, write_update,
 };
 use crate::{IGNORED, answer};
-use nt2_sys::{Answer, CONNECTIONS, LentTable};
+use nt2_sys::{Answer, CONNECTIONS, DELIVERY_MESSAGES, Delivered, HEADING, LentTable};
 
 const CLOSED: u8 = 0;
 const OPEN: u8 = 1;
@@ -73,6 +74,23 @@ pub fn receive(
     )
 }
 
+/// Takes messages of a client in order. Each leaves a sound table sound, so that is judged once.
+pub fn deliver(
+    table: LentTable<'_>,
+    marks: &mut [u8],
+    connection: usize,
+    input: &[u8],
+    out: &mut [u8],
+) -> Delivered {
+    let mut delivered = Delivered::default();
+    let ended = Server::sound(table, marks)
+        .and_then(|mut server| server.deliver(connection, input, out, &mut delivered));
+    match ended {
+        Ok(ended) => Delivered { ended, ..delivered },
+        Err(Fault { number, place }) => Delivered { number, place, ..delivered },
+    }
+}
+
 /// Creates an entry for the plant's own code.
 pub fn create(
     table: LentTable<'_>,
@@ -135,11 +153,44 @@ impl<'a> Server<'a> {
             .fold(0, |set, (c, &mark)| set | u16::from(mark == GREETED) << c)
     }
 
-    fn receive(&mut self, connection: usize, message: &[u8], out: &mut [u8]) -> Judged<Answer> {
-        let mark = *self.marks.get(connection).ok_or(Refusal::NoSuchConnection)?;
-        if mark == CLOSED {
-            return Err(Refusal::State.into());
+    /// The mark of a connection that is not closed.
+    fn mark(&self, connection: usize) -> Judged<u8> {
+        match *self.marks.get(connection).ok_or(Refusal::NoSuchConnection)? {
+            CLOSED => Err(Refusal::State.into()),
+            mark => Ok(mark),
         }
+    }
+
+    /// Answers how the delivery ended, unless that is by a refusal, and counts what came before.
+    fn deliver(
+        &mut self,
+        connection: usize,
+        input: &[u8],
+        out: &mut [u8],
+        delivered: &mut Delivered,
+    ) -> Judged<u8> {
+        self.mark(connection)?;
+        while delivered.taken < input.len() {
+            if delivered.messages == DELIVERY_MESSAGES {
+                return Ok(Delivered::MOST);
+            }
+            let message = &input[delivered.taken..];
+            let rest = &mut out[delivered.written..];
+            let (heading, room) = rest.split_at_mut(HEADING.min(rest.len()));
+            let answer = self.receive(connection, message, room)?;
+            if answer.number != IGNORED {
+                // Something was sent, so the heading before it is whole.
+                write_heading(answer.recipients, answer.sent, heading);
+                delivered.written += HEADING + answer.sent;
+            }
+            delivered.messages += 1;
+            delivered.taken += answer.taken;
+        }
+        Ok(Delivered::SPENT)
+    }
+
+    fn receive(&mut self, connection: usize, message: &[u8], out: &mut [u8]) -> Judged<Answer> {
+        let mark = self.mark(connection)?;
         let mut reader = Reader::new(message);
         let kind = reader.u8()?;
         match (kind, mark) {

@@ -265,6 +265,13 @@ pub fn write_revision(kind: u8, revision: u16, out: &mut [u8]) -> usize {
     3
 }
 
+/// Writes the heading of a delivery's message, which `out` has the room for and no more.
+pub fn write_heading(recipients: u16, length: usize, out: &mut [u8]) {
+    let (front, rest) = out.split_at_mut(2);
+    front.copy_from_slice(&recipients.to_be_bytes());
+    rest.copy_from_slice(&(length as u32).to_be_bytes());
+}
+
 #[cfg(test)]
 mod tests {
     extern crate std;

@@ -6,21 +6,29 @@ use crate::implementation::Implementation;
 use crate::json::Json;
 use crate::memory::{Guarded, Memory};
 use nt2_sys::{
-    Answer, CONNECTIONS, Copied, ENTRIES, Fields, Head, LONGEST_HELLO_ANSWER, TABLE_BYTES,
+    Answer, CONNECTIONS, Copied, Delivered, ENTRIES, Fields, Head, LONGEST_HELLO_ANSWER,
+    TABLE_BYTES,
 };
 use std::fmt::Write;
 use std::fs;
 use std::path::{Path, PathBuf};
 
-/// The files of cases, with the number of cases in each.
-pub const FILES: [(&str, usize); 7] = [
+/// The files of cases, with the number of cases in each that are replayed.
+pub const FILES: [(&str, usize); 8] = [
     ("client.json", 2527),
     ("copy.json", 755),
     ("listing.json", 63),
     ("local.json", 846),
+    ("requests.json", 111),
     ("runs.json", 130),
     ("unsound.json", 1321),
     ("writer.json", 1960),
+];
+
+/// Calls that there are not yet. Their cases are not replayed.
+const LATER_CALLS: [&str; 11] = [
+    "replay", "counts", "why", "save", "load", "recall", "pattern", "copy12", "bench", "reader3",
+    "writer3",
 ];
 
 /// Bytes that the listing program reads.
@@ -33,7 +41,7 @@ pub fn folder() -> PathBuf {
     Path::new(env!("CARGO_MANIFEST_DIR")).join("../cases")
 }
 
-/// What came of a file: the cases replayed, and a line for each that failed.
+/// What came of a file: how many cases were replayed, and a line for each that failed.
 #[derive(Debug)]
 pub struct Replayed {
     pub cases: usize,
@@ -49,12 +57,18 @@ pub fn replay<I: Implementation>(folder: &Path, file: &str) -> Checked<Replayed>
     }
     let memories = member(&json, "mems")?.list()?;
     let memories: Vec<Memory> = memories.iter().map(memory).collect::<Checked<_>>()?;
-    let cases = member(&json, "cases")?.list()?;
-    let failures = cases.iter().enumerate().filter_map(|(place, case)| {
-        let failure = check::<I>(&memories, case).err()?;
-        Some(format!("{file}, case {place}: {failure}"))
-    });
-    Ok(Replayed { cases: cases.len(), failures: failures.collect() })
+    let mut replayed = Replayed { cases: 0, failures: Vec::new() };
+    for (place, case) in member(&json, "cases")?.list()?.iter().enumerate() {
+        let name = member(case, "c")?.text()?;
+        if LATER_CALLS.contains(&name) {
+            continue;
+        }
+        replayed.cases += 1;
+        if let Err(failure) = check::<I>(&memories, case, name) {
+            replayed.failures.push(format!("{file}, case {place}: {failure}"));
+        }
+    }
+    Ok(replayed)
 }
 
 fn member<'a>(json: &'a Json, key: &str) -> Checked<&'a Json> {
@@ -153,11 +167,11 @@ fn changed(mut memory: Memory, case: &Json) -> Checked<Memory> {
     Ok(memory)
 }
 
-fn check<I: Implementation>(memories: &[Memory], case: &Json) -> Checked {
-    match member(case, "c")?.text()? {
+fn check<I: Implementation>(memories: &[Memory], case: &Json, name: &str) -> Checked {
+    match name {
         "listing" => check_listing::<I>(case),
         "run" => check_run::<I>(memories, case),
-        name => check_call::<I>(memories, case, name),
+        _ => check_call::<I>(memories, case, name),
     }
 }
 
@@ -169,8 +183,11 @@ fn check_call<I: Implementation>(memories: &[Memory], case: &Json, name: &str) -
     let mut out = Guarded::output(case.get("o").map_or(Ok(0), Json::number)?);
     let outcome = call.perform::<I>(&mut server, &mut copy, &mut out)?;
 
-    check_outcome(case, &call, outcome)?;
-    check_output(case, outcome.sent(), &out)?;
+    match outcome {
+        Outcome::Delivered(delivered) => check_delivered(case, &call, delivered)?,
+        _ => check_outcome(case, &call, outcome)?,
+    }
+    check_output(case, outcome.written(), &out)?;
     let on_copy = matches!(call, Call::CopyFresh | Call::CopyReceive { .. });
     let (after, other) = if on_copy { (copy, server) } else { (server, copy) };
     if let Some(difference) = other.difference(&before) {
@@ -189,6 +206,7 @@ fn case_call(case: &Json, name: &str) -> Checked<Call> {
         "open" => Call::Open { connection: number(case, "n")? },
         "leave" => Call::Leave { connection: number(case, "n")? },
         "msg" => Call::Receive { connection: number(case, "n")?, message: hex(case, "i")? },
+        "deliver" => Call::Deliver { connection: number(case, "n")?, input: hex(case, "i")? },
         "create" => Call::Create {
             name: hex(case, "name")?,
             type_code: number(case, "t")?,
@@ -240,12 +258,38 @@ fn check_outcome(case: &Json, call: &Call, outcome: Outcome) -> Checked {
             (fields.number, fields.taken, fields.place) == (number, taken, place)
                 && fields_match(case, fields, &bytes.0)?
         }
-        (Outcome::Fields(_), _) => false,
+        (Outcome::Fields(_) | Outcome::Delivered(_), _) => false,
     };
     if as_expected {
         Ok(())
     } else {
         Err(format!("{call:?} answers {outcome:?}, not {expected:?}"))
+    }
+}
+
+/// A delivery with a case's [why it ended, number, messages, taken, written, place].
+fn check_delivered(case: &Json, call: &Call, delivered: Delivered) -> Checked {
+    let [why, number, messages, taken, written, place] = member(case, "x")?.list()? else {
+        return Err("a delivery has six fields".into());
+    };
+    let ended = match why.text()? {
+        "refused" => Delivered::REFUSED,
+        "spent" => Delivered::SPENT,
+        "64" => Delivered::MOST,
+        why => return Err(format!("a delivery ended by {why:?}")),
+    };
+    let expected = Delivered {
+        number: number.number()?,
+        ended,
+        messages: messages.number()?,
+        taken: taken.number()?,
+        written: written.number()?,
+        place: place.number()?,
+    };
+    if delivered == expected {
+        Ok(())
+    } else {
+        Err(format!("{call:?} answers {delivered:?}, not {expected:?}"))
     }
 }
 

@@ -2,7 +2,7 @@
 
 use crate::implementation::Implementation;
 use crate::memory::{Guarded, Memory};
-use nt2_sys::{Answer, Copied, Fields, Scalar};
+use nt2_sys::{Answer, Copied, Delivered, Fields, Scalar};
 use std::fmt;
 use std::hint::black_box;
 use std::ops::RangeInclusive;
@@ -17,6 +17,9 @@ impl fmt::Debug for Hex {
     }
 }
 
+/// The calls that there are.
+pub const CALLS: usize = 13;
+
 /// A call on a server's table, on a copy, or on single messages.
 #[derive(Clone, Debug)]
 pub enum Call {
@@ -24,6 +27,7 @@ pub enum Call {
     Open { connection: usize },
     Leave { connection: usize },
     Receive { connection: usize, message: Hex },
+    Deliver { connection: usize, input: Hex },
     Create { name: Hex, type_code: u8, value: Hex },
     Write { id: u16, value: Hex },
     Read { id: u16 },
@@ -51,14 +55,16 @@ pub enum Outcome {
     Scalar(Scalar),
     Fields(Fields),
     Copied(Copied),
+    Delivered(Delivered),
 }
 
 impl Call {
-    pub const NAMES: [&'static str; 12] = [
+    pub const NAMES: [&'static str; CALLS] = [
         "fresh",
         "open",
         "leave",
         "receive",
+        "deliver",
         "create",
         "write",
         "read",
@@ -76,20 +82,22 @@ impl Call {
             Call::Open { .. } => 1,
             Call::Leave { .. } => 2,
             Call::Receive { .. } => 3,
-            Call::Create { .. } => 4,
-            Call::Write { .. } => 5,
-            Call::Read { .. } => 6,
-            Call::Encode { .. } => 7,
-            Call::Decode { .. } => 8,
-            Call::CopyFresh => 9,
-            Call::CopyReceive { .. } => 10,
-            Call::CopyRead { .. } => 11,
+            Call::Deliver { .. } => 4,
+            Call::Create { .. } => 5,
+            Call::Write { .. } => 6,
+            Call::Read { .. } => 7,
+            Call::Encode { .. } => 8,
+            Call::Decode { .. } => 9,
+            Call::CopyFresh => 10,
+            Call::CopyReceive { .. } => 11,
+            Call::CopyRead { .. } => 12,
         }
     }
 
     fn inputs(&self) -> Inputs {
         let (message, name, value): (&[u8], &[u8], &[u8]) = match self {
             Call::Receive { message, .. }
+            | Call::Deliver { input: message, .. }
             | Call::CopyReceive { message }
             | Call::Decode { bytes: message, .. } => (&message.0, &[], &[]),
             Call::Create { name, value, .. } | Call::Encode { name, value, .. } => {
@@ -138,6 +146,9 @@ impl Call {
             Call::Receive { connection, .. } => {
                 Outcome::Answer(I::receive(table, marks, *connection, message, out))
             }
+            Call::Deliver { connection, .. } => {
+                Outcome::Delivered(I::deliver(table, marks, *connection, message, out))
+            }
             Call::Create { type_code, .. } => {
                 Outcome::Answer(I::create(table, marks, name, *type_code, value, out))
             }
@@ -163,14 +174,24 @@ impl Outcome {
             Outcome::Scalar(scalar) => scalar.number,
             Outcome::Fields(fields) => fields.number,
             Outcome::Copied(copied) => copied.number,
+            Outcome::Delivered(delivered) => delivered.number,
         }
     }
 
-    /// Bytes sent.
-    pub fn sent(&self) -> usize {
+    /// Bytes of the output that are written.
+    pub fn written(&self) -> usize {
         match self {
             Outcome::Answer(answer) => answer.sent,
+            Outcome::Delivered(delivered) => delivered.written,
             _ => 0,
+        }
+    }
+
+    /// Whether memory may have changed. Each message of a delivery that is done writes something.
+    pub fn may_change_memory(&self) -> bool {
+        match self {
+            Outcome::Delivered(delivered) => delivered.written > 0,
+            _ => self.number() == 0,
         }
     }
 
@@ -181,6 +202,7 @@ impl Outcome {
             Outcome::Scalar(_) => 0,
             Outcome::Fields(fields) => fields.place,
             Outcome::Copied(copied) => copied.place,
+            Outcome::Delivered(delivered) => delivered.place,
         }
     }
 
@@ -189,19 +211,25 @@ impl Outcome {
         self.place() == 0 || PLACED.contains(&self.number())
     }
 
-    /// Whether a refusal, or a message ignored, says that nothing came of it, and whether only a
-    /// refusal that can have a place has one.
+    /// Whether a refusal, or a message ignored, says that nothing came of it, whether a delivery's
+    /// number belongs to its end, and whether only a refusal that can have a place has one.
     pub fn keeps_form(&self) -> bool {
         let (number, place) = (self.number(), self.place());
         let refused = (1..=14).contains(&number);
-        let nothing = match *self {
+        let in_form = match *self {
+            Outcome::Delivered(d) => match d.ended {
+                Delivered::REFUSED => refused,
+                Delivered::SPENT | Delivered::MOST => number == 0,
+                _ => false,
+            },
+            _ if number == 0 => true,
             Outcome::Answer(a) => a.sent == 0 && a.recipients == 0 && (!refused || a.taken == 0),
             Outcome::Scalar(s) => s == Scalar { number, ..Scalar::default() },
             Outcome::Fields(f) => f == Fields { number, place, ..Fields::default() },
             Outcome::Copied(c) => !refused || c == Copied { number, place, ..Copied::default() },
         };
         let known = refused || matches!(number, 0 | 16);
-        known && (number == 0 || nothing) && self.keeps_place()
+        known && in_form && self.keeps_place()
     }
 }
 
@@ -212,6 +240,7 @@ impl PartialEq for Outcome {
             (Outcome::Answer(left), Outcome::Answer(right)) => left == right,
             (Outcome::Fields(left), Outcome::Fields(right)) => left == right,
             (Outcome::Copied(left), Outcome::Copied(right)) => left == right,
+            (Outcome::Delivered(left), Outcome::Delivered(right)) => left == right,
             (Outcome::Scalar(left), Outcome::Scalar(right)) => {
                 let same_value = left.value.to_bits() == right.value.to_bits()
                     || left.value.is_nan() && right.value.is_nan();

@@ -1,11 +1,17 @@
 //! Demand 3: after any run each clean client's copy equals the table.
 
 use crate::call::{Call, Outcome};
-use crate::generate::{Generator, Weights};
+use crate::delivery::{SingleCalls, Taken};
+use crate::generate::{Generator, MOST_ROOM, Weights};
 use crate::implementation::Implementation;
 use crate::memory::{Guarded, Memory};
 use crate::random::Random;
-use nt2_sys::{Answer, CONNECTIONS, ENTRIES, Head, LONGEST_HELLO_ANSWER, TABLE_BYTES};
+use nt2_sys::{Answer, CONNECTIONS, ENTRIES, Head, TABLE_BYTES, headed};
+
+/// A hello that is accepted where it is done.
+const HELLO: &[u8] = &[0x01, 0x02, 0x00];
+/// The kind of an update.
+const UPDATE: u8 = 0x11;
 
 /// The bytes addressed to each client since its last accepted hello, as long as it has not left
 /// and no update of its own was applied.
@@ -36,26 +42,50 @@ impl Clients {
         if answer.number != 0 {
             return;
         }
-        let mut updater = None;
         match call {
             Call::Fresh => *self = Clients::new(),
             Call::Leave { connection } => self.addressed[*connection] = None,
-            Call::Receive { connection, message } => match message.0[..] {
-                [0x01, 0x02, 0x00, ..] => self.addressed[*connection] = Some(Vec::new()),
-                [0x11, ..] => updater = Some(*connection),
-                _ => {}
-            },
-            _ => {}
+            Call::Receive { connection, message } => {
+                self.follow_message(*connection, &message.0, answer.recipients, sent);
+            }
+            _ => self.address(answer.recipients, sent),
         }
+    }
+
+    /// Follows a delivery by what it wrote, each message that is done as a call of the run. Single
+    /// calls on the memory before it have told which these are.
+    fn follow_delivery(
+        &mut self,
+        connection: usize,
+        made: &SingleCalls<'_>,
+        written: &[u8],
+    ) -> Result<(), String> {
+        let mut headed = headed(written);
+        for taken in made.taken.iter().filter(|taken| taken.answer.number == 0) {
+            let (recipients, bytes) = headed.next().ok_or("a heading is missing")?;
+            self.follow_message(connection, taken.message, recipients, bytes);
+        }
+        if headed.next().is_none() { Ok(()) } else { Err("a heading too many".into()) }
+    }
+
+    /// Follows a client's message that is done.
+    fn follow_message(&mut self, connection: usize, message: &[u8], to: u16, sent: &[u8]) {
+        if message.starts_with(HELLO) {
+            self.addressed[connection] = Some(Vec::new());
+        }
+        self.address(to, sent);
+        if message.starts_with(&[UPDATE]) {
+            self.addressed[connection] = None;
+        }
+    }
+
+    fn address(&mut self, recipients: u16, sent: &[u8]) {
         for (connection, addressed) in self.addressed.iter_mut().enumerate() {
             if let Some(addressed) = addressed
-                && answer.recipients >> connection & 1 == 1
+                && recipients >> connection & 1 == 1
             {
                 addressed.extend_from_slice(sent);
             }
-        }
-        if let Some(connection) = updater {
-            self.addressed[connection] = None;
         }
     }
 
@@ -140,6 +170,9 @@ fn same_entries(server: &Memory, copy: &Memory) -> Result<(), String> {
 pub struct Run {
     pub calls: usize,
     pub done: usize,
+    /// Messages that deliveries took, and hellos accepted among them.
+    pub delivered: usize,
+    pub hellos_delivered: usize,
     pub compared: Compared,
 }
 
@@ -149,7 +182,7 @@ pub fn run<S: Implementation, C: Implementation>(seed: u64, calls: usize) -> Res
     let mut random = Random::new(seed);
     let mut server = any_memory(&mut random);
     let mut unused = any_memory(&mut random);
-    let mut out = Guarded::output(LONGEST_HELLO_ANSWER + 64);
+    let mut out = Guarded::output(MOST_ROOM);
     let mut generator = Generator::new(random.number(), Weights::RUN);
     generator.choose_readers();
     let (mut clients, mut run) = (Clients::new(), Run::default());
@@ -159,13 +192,18 @@ pub fn run<S: Implementation, C: Implementation>(seed: u64, calls: usize) -> Res
             _ => generator.call(&server, &unused),
         };
         out.lend_only(room);
+        let made = single_calls::<S>(&call, &server, room);
         let outcome = call.perform::<S>(&mut server, &mut unused, &mut out)?;
-        run.calls += 1;
-        run.done += usize::from(outcome.number() == 0);
-        if let Outcome::Answer(answer) = outcome {
-            clients.follow(&call, answer, &out.lent()[..answer.sent]);
-            out.refill(answer.sent);
+        run.count(outcome, &made);
+        let written = &out.lent()[..outcome.written()];
+        match (&call, outcome) {
+            (Call::Deliver { connection, .. }, _) => {
+                clients.follow_delivery(*connection, &made, written)?;
+            }
+            (_, Outcome::Answer(answer)) => clients.follow(&call, answer, written),
+            _ => {}
         }
+        out.refill(outcome.written());
         if place == 0 && outcome.number() != 0 {
             return Err("the fresh start is refused".into());
         }
@@ -176,4 +214,40 @@ pub fn run<S: Implementation, C: Implementation>(seed: u64, calls: usize) -> Res
         }
     }
     Ok(run)
+}
+
+impl Run {
+    /// Adds what came of another run.
+    pub fn add(&mut self, other: &Run) {
+        self.calls += other.calls;
+        self.done += other.done;
+        self.delivered += other.delivered;
+        self.hellos_delivered += other.hellos_delivered;
+        self.compared.clients += other.compared.clients;
+        self.compared.messages += other.compared.messages;
+        self.compared.entries += other.compared.entries;
+    }
+
+    fn count(&mut self, outcome: Outcome, made: &SingleCalls<'_>) {
+        self.calls += 1;
+        self.done += usize::from(outcome.number() == 0);
+        self.delivered += made.taken.len();
+        let hello = |taken: &&Taken<'_>| taken.answer.number == 0 && taken.message == HELLO;
+        self.hellos_delivered += made.taken.iter().filter(hello).count();
+    }
+}
+
+/// What single calls make of a delivery; nothing of another call.
+fn single_calls<'a, I: Implementation>(
+    call: &'a Call,
+    server: &Memory,
+    room: usize,
+) -> SingleCalls<'a> {
+    match call {
+        Call::Deliver { connection, input } => {
+            let out = &mut vec![0; room];
+            SingleCalls::make::<I>(&mut server.clone(), *connection, &input.0, out)
+        }
+        _ => SingleCalls::default(),
+    }
 }

@@ -1,10 +1,11 @@
 //! Two implementations side by side: the same calls on the same memory, every byte compared.
 
-use crate::call::{Call, Outcome, PLACED};
-use crate::generate::{Generator, Weights};
+use crate::call::{CALLS, Call, Outcome, PLACED};
+use crate::delivery::{SORTS, SingleCalls};
+use crate::generate::{Generator, MOST_ROOM, Weights};
 use crate::implementation::Implementation;
 use crate::memory::{Guarded, Memory};
-use nt2_sys::LONGEST_HELLO_ANSWER;
+use nt2_sys::headed;
 use std::collections::BTreeSet;
 use std::marker::PhantomData;
 use std::ops::RangeInclusive;
@@ -31,12 +32,17 @@ impl Answers {
 
 /// By call, as in [`Call::NAMES`]. In a message no place is 0, but that of a type given for it. Of a
 /// name alone every place is 0, of a value alone that of a text is not.
-const ANSWERS: [Answers; 12] = [
+const ANSWERS: [Answers; CALLS] = [
     Answers::without_place(&[0, 14]),
     Answers::without_place(&[0, 2, 3, 14]),
     Answers::without_place(&[0, 2, 3, 14]),
     Answers {
         numbers: &[0, 1, 2, 3, 4, 5, 6, 7, 8, 9, 10, 11, 12, 14, 16],
+        at_0: &[],
+        above_0: &[7, 8, 9, 10],
+    },
+    Answers {
+        numbers: &[0, 1, 2, 3, 4, 5, 6, 7, 8, 9, 10, 11, 12, 14],
         at_0: &[],
         above_0: &[7, 8, 9, 10],
     },
@@ -58,17 +64,24 @@ const ANSWERS: [Answers; 12] = [
     Answers::without_place(&[0, 6, 14]),
 ];
 
-/// Comparisons by call and number, and the places of faults that were met with each.
+/// Comparisons by call and number, the places of faults that were met with each, and the deliveries of
+/// each sort.
 #[derive(Clone, Debug)]
 pub struct Report {
     pub comparisons: u64,
-    pub numbers: [[u64; 17]; 12],
+    pub numbers: [[u64; 17]; CALLS],
     places: BTreeSet<(usize, usize, usize)>,
+    deliveries: [(&'static str, u64); SORTS],
 }
 
 impl Report {
     fn new() -> Self {
-        Report { comparisons: 0, numbers: [[0; 17]; 12], places: BTreeSet::new() }
+        Report {
+            comparisons: 0,
+            numbers: [[0; 17]; CALLS],
+            places: BTreeSet::new(),
+            deliveries: SingleCalls::default().sorts().map(|(sort, _)| (sort, 0)),
+        }
     }
 
     fn count(&mut self, call: &Call, outcome: Outcome) {
@@ -80,23 +93,31 @@ impl Report {
         }
     }
 
+    fn count_delivery(&mut self, made: &SingleCalls<'_>) {
+        let deliveries = self.deliveries.iter_mut().zip(made.sorts());
+        deliveries.for_each(|((_, count), (_, is_one))| *count += u64::from(is_one));
+    }
+
     fn add(&mut self, other: &Report) {
         self.comparisons += other.comparisons;
         self.places.extend(&other.places);
+        let deliveries = self.deliveries.iter_mut().zip(&other.deliveries);
+        deliveries.for_each(|((_, n), (_, m))| *n += m);
         for (row, others) in self.numbers.iter_mut().zip(&other.numbers) {
             row.iter_mut().zip(others).for_each(|(n, m)| *n += m);
         }
     }
 
-    /// Answers that a call can give and that were not met: numbers, and places at 0 and above 0.
+    /// Answers that a call can give and that were not met: numbers, and places at 0 and above 0. Sorts
+    /// of deliveries too.
     pub fn missed(&self) -> Vec<String> {
         let calls = Call::NAMES.iter().zip(&ANSWERS).enumerate();
-        calls
-            .flat_map(|(call, (name, answers))| {
-                let missed = self.missed_by(call, answers).into_iter();
-                missed.map(move |what| format!("{name} {what}"))
-            })
-            .collect()
+        let answers = calls.flat_map(|(call, (name, answers))| {
+            let missed = self.missed_by(call, answers).into_iter();
+            missed.map(move |what| format!("{name} {what}"))
+        });
+        let deliveries = self.deliveries.iter().filter(|(_, count)| *count == 0);
+        answers.chain(deliveries.map(|(sort, _)| format!("delivery {sort}"))).collect()
     }
 
     fn missed_by(&self, call: usize, answers: &Answers) -> Vec<String> {
@@ -115,17 +136,18 @@ impl Report {
         self.places.range(key(range.start())..=key(range.end())).count()
     }
 
-    /// A line for each call: how often it answered with which number, and at how many places.
+    /// A line for each call: how often it answered with which number, and at how many places. One for
+    /// the sorts of deliveries.
     pub fn lines(&self) -> Vec<String> {
         let calls = Call::NAMES.iter().zip(&self.numbers).enumerate();
-        calls
-            .map(|(call, (name, counts))| {
-                let met = counts.iter().enumerate().filter(|(_, count)| **count > 0);
-                let met: Vec<String> =
-                    met.map(|(n, count)| format!("{n}: {count}{}", self.at(call, n))).collect();
-                format!("  {name:<12} {}", met.join(", "))
-            })
-            .collect()
+        let line = |name: &str, met: Vec<String>| format!("  {name:<12} {}", met.join(", "));
+        let calls = calls.map(|(call, (name, counts))| {
+            let met = counts.iter().enumerate().filter(|(_, count)| **count > 0);
+            let met = met.map(|(n, count)| format!("{n}: {count}{}", self.at(call, n)));
+            line(name, met.collect())
+        });
+        let deliveries = self.deliveries.iter().map(|(sort, count)| format!("{sort}: {count}"));
+        calls.chain([line("deliveries", deliveries.collect())]).collect()
     }
 
     /// At how many places a call answered with a number, in words.
@@ -144,12 +166,21 @@ struct Side {
     out: Guarded<u8>,
 }
 
+impl Side {
+    fn perform<I: Implementation>(&mut self, call: &Call, room: usize) -> Result<Outcome, String> {
+        self.out.lend_only(room);
+        call.perform::<I>(&mut self.server, &mut self.copy, &mut self.out)
+    }
+}
+
 struct Series<L, R> {
     generator: Generator,
     /// The memory before a call.
     before: (Memory, Memory),
     left: Side,
     right: Side,
+    /// The right implementation's single calls, beside its deliveries.
+    single: Side,
     report: Report,
     implementations: PhantomData<(L, R)>,
 }
@@ -168,11 +199,12 @@ impl<L: Implementation, R: Implementation> Series<L, R> {
         let server = memory(&mut generator);
         let copy =
             if generator.random.percent(40) { server.clone() } else { memory(&mut generator) };
-        let out = Guarded::output(LONGEST_HELLO_ANSWER + 64);
+        let out = Guarded::output(MOST_ROOM);
         let side = || Side { server: server.clone(), copy: copy.clone(), out: out.clone() };
         Series {
             left: side(),
             right: side(),
+            single: side(),
             before: (server, copy),
             generator,
             report: Report::new(),
@@ -220,38 +252,73 @@ impl<L: Implementation, R: Implementation> Series<L, R> {
     /// Makes a call on both sides and compares answer, output and memory. What the call only reads is
     /// in guarded memory too.
     fn compare(&mut self, call: &Call, room: usize) -> Result<(), String> {
-        let (left, right) = (&mut self.left, &mut self.right);
-        left.out.lend_only(room);
-        right.out.lend_only(room);
-        let outcome = call.perform::<L>(&mut left.server, &mut left.copy, &mut left.out)?;
-        let other = call.perform::<R>(&mut right.server, &mut right.copy, &mut right.out)?;
-        let failed = |what: &str| {
-            let names = (L::NAME, R::NAME);
-            format!(
-                "{what}\n  {call:?}, output of {room}\n  {}: {outcome:?}\n  {}: {other:?}",
-                names.0, names.1
-            )
-        };
-        if outcome != other {
-            return Err(failed("the answers differ"));
-        }
-        if !outcome.keeps_form() {
-            return Err(failed("an answer has another form"));
-        }
-        if left.out != right.out {
-            return Err(failed("the outputs differ"));
-        }
-        if outcome.sent() > room || !left.out.is_filled_but(outcome.sent()) {
-            return Err(failed("the output's rest has changed"));
-        }
-        check_memory(&left.server, &right.server, &mut self.before.0, outcome)
-            .and_then(|()| check_memory(&left.copy, &right.copy, &mut self.before.1, outcome))
-            .map_err(|difference| failed(&difference))?;
-        self.generator.keep_sent(&left.out.lent()[..outcome.sent()]);
-        left.out.refill(outcome.sent());
-        right.out.refill(outcome.sent());
+        let outcome = self.left.perform::<L>(call, room)?;
+        let other = self.right.perform::<R>(call, room)?;
+        self.check_answers(outcome, other)
+            .and_then(|()| self.check_single_calls(call, outcome))
+            .and_then(|()| self.check_memories(outcome))
+            .map_err(|what| {
+                let (left, right) = (L::NAME, R::NAME);
+                let shown = format!("{left}: {outcome:?}\n  {right}: {other:?}");
+                format!("{what}\n  {call:?}, output of {room}\n  {shown}")
+            })?;
+        let written = outcome.written();
+        self.keep_sent(call, written);
+        self.left.out.refill(written);
+        self.right.out.refill(written);
         self.report.count(call, outcome);
         Ok(())
+    }
+
+    fn check_answers(&self, outcome: Outcome, other: Outcome) -> Result<(), String> {
+        let (out, written) = (&self.left.out, outcome.written());
+        Err(if outcome != other {
+            "the answers differ"
+        } else if !outcome.keeps_form() {
+            "an answer has another form"
+        } else if *out != self.right.out {
+            "the outputs differ"
+        } else if written > out.lent().len() || !out.is_filled_but(written) {
+            "the output's rest has changed"
+        } else {
+            return Ok(());
+        }
+        .into())
+    }
+
+    /// A delivery answers, writes and makes of the table what single calls do.
+    fn check_single_calls(&mut self, call: &Call, outcome: Outcome) -> Result<(), String> {
+        let (Call::Deliver { connection, input }, Outcome::Delivered(delivered)) = (call, outcome)
+        else {
+            return Ok(());
+        };
+        let Side { server, out, .. } = &mut self.single;
+        server.copy_from(&self.before.0);
+        out.lend_only(self.right.out.lent().len());
+        let made = SingleCalls::make::<R>(server, *connection, &input.0, out.lent_mut());
+        if made.delivered != delivered || *out != self.right.out || *server != self.right.server {
+            return Err(format!("single calls differ: {:?}", made.delivered));
+        }
+        out.refill(delivered.written);
+        self.report.count_delivery(&made);
+        Ok(())
+    }
+
+    fn check_memories(&mut self, outcome: Outcome) -> Result<(), String> {
+        let (left, right) = (&self.left, &self.right);
+        check_memory(&left.server, &right.server, &mut self.before.0, outcome)?;
+        check_memory(&left.copy, &right.copy, &mut self.before.1, outcome)
+    }
+
+    /// Keeps what was sent, for a copy to take.
+    fn keep_sent(&mut self, call: &Call, written: usize) {
+        let written = &self.left.out.lent()[..written];
+        match call {
+            Call::Deliver { .. } => {
+                headed(written).for_each(|(_, bytes)| self.generator.keep_sent(bytes));
+            }
+            _ => self.generator.keep_sent(written),
+        }
     }
 }
 
@@ -265,7 +332,7 @@ fn check_memory(
     if left != right {
         return Err(left.difference(right).unwrap_or("lengths".into()));
     }
-    if outcome.number() == 0 {
+    if outcome.may_change_memory() {
         before.copy_from(left);
     } else if left != before {
         return Err("memory changed by a call that was not done".into());

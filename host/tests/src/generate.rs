@@ -1,11 +1,16 @@
 //! Random calls that fit the state of a table, and damaged ones.
 
-use crate::call::{Call, Hex};
+use crate::call::{CALLS, Call, Hex};
+use crate::implementation::{Implementation, Reference};
 use crate::memory::Memory;
 use crate::random::Random;
 use nt2_sys::{
-    CONNECTIONS, ENTRIES, Head, LONGEST_HELLO_ANSWER, NAME_ROOM, TABLE_BYTES, VALUE_ROOM,
+    CONNECTIONS, DELIVERY_MESSAGES, ENTRIES, HEADING, Head, LONGEST_HELLO_ANSWER, NAME_ROOM,
+    TABLE_BYTES, VALUE_ROOM,
 };
+
+/// Bytes of the longest output: a hello's longest answer has room, and more behind it.
+pub const MOST_ROOM: usize = LONGEST_HELLO_ANSWER + 4000;
 
 const TYPES: [u8; 6] = [0x00, 0x01, 0x02, 0x10, 0x11, 0x12];
 const UNKNOWN_TYPES: [u8; 7] = [0x03, 0x04, 0x0F, 0x13, 0x20, 0x80, 0xFF];
@@ -66,13 +71,13 @@ const NO_TEXT: [&[u8]; 20] = [
 
 /// How often each call is made, in the order of `Call::NAMES`.
 #[derive(Clone, Copy, Debug)]
-pub struct Weights(pub [usize; 12]);
+pub struct Weights(pub [usize; CALLS]);
 
 impl Weights {
     /// All calls, for the differential test.
-    pub const ALL: Weights = Weights([2, 50, 20, 420, 90, 120, 30, 60, 80, 2, 110, 16]);
+    pub const ALL: Weights = Weights([2, 50, 20, 400, 40, 80, 120, 30, 60, 80, 2, 110, 16]);
     /// The calls of a run in demand 3, which begins with the only fresh start.
-    pub const RUN: Weights = Weights([0, 20, 2, 560, 40, 350, 28, 0, 0, 0, 0, 0]);
+    pub const RUN: Weights = Weights([0, 20, 2, 500, 60, 40, 350, 28, 0, 0, 0, 0, 0]);
 }
 
 pub struct Generator {
@@ -151,29 +156,22 @@ impl Generator {
             1 => (Call::Open { connection: self.closed_connection(server) }, 0),
             2 => (Call::Leave { connection: self.any_connection() }, 0),
             3 => self.receive(server),
-            4 => self.create(server),
-            5 => self.write(server),
-            6 => (Call::Read { id: self.id(server) }, 0),
-            7 => self.encode(server),
-            8 => self.decode(server),
-            9 => (Call::CopyFresh, 0),
-            10 => (Call::CopyReceive { message: Hex(self.server_message(copy)) }, 0),
+            4 => self.deliver(server),
+            5 => self.create(server),
+            6 => self.write(server),
+            7 => (Call::Read { id: self.id(server) }, 0),
+            8 => self.encode(server),
+            9 => self.decode(server),
+            10 => (Call::CopyFresh, 0),
+            11 => (Call::CopyReceive { message: Hex(self.server_message(copy)) }, 0),
             _ => (Call::CopyRead { id: self.id(copy) }, 0),
         }
     }
 
     fn receive(&mut self, server: &Memory) -> (Call, usize) {
-        let marks = server.marks.lent();
-        let mut connection = self.any_connection();
-        for _ in 0..3 {
-            let reader = self.readers.get(connection) == Some(&true);
-            if marks.get(connection) == Some(&0) || reader && self.random.percent(50) {
-                connection = self.any_connection();
-            }
-        }
-        let greeted = connection < CONNECTIONS && marks[connection] == 2;
-        let reader = connection < CONNECTIONS && self.readers[connection];
-        let message = self.client_message(server, greeted, reader);
+        let connection = self.sender(server);
+        let message = self.client_message(server, connection);
+        let greeted = server.marks.lent().get(connection) == Some(&2);
         let exact = if message.first() == Some(&0x01) && !greeted {
             hello_answer_length(server)
         } else {
@@ -184,7 +182,78 @@ impl Generator {
         (Call::Receive { connection, message: Hex(message) }, room)
     }
 
-    fn client_message(&mut self, server: &Memory, greeted: bool, reader: bool) -> Vec<u8> {
+    /// Messages for the state in which those before them leave the table, mostly good ones.
+    fn deliver(&mut self, server: &Memory) -> (Call, usize) {
+        let connection = self.sender(server);
+        let (mut messages, bad) = (self.delivery_messages(), self.random.pick(&[0, 0, 3, 30]));
+        let (mut state, mut out) = (server.clone(), [0; LONGEST_HELLO_ANSWER]);
+        // The bytes written after each message that is done.
+        let (mut input, mut written) = (Vec::new(), vec![0]);
+        for _ in 0..2 * messages {
+            let message = self.client_message(&state, connection);
+            let (table, marks) = state.lend();
+            let answer = Reference::receive(table, marks, connection, &message, &mut out);
+            if answer.number == 0 {
+                written.push(written[written.len() - 1] + HEADING + answer.sent);
+            }
+            if answer.taken > 0 {
+                input.extend(&message[..answer.taken]);
+            } else if self.random.percent(bad) {
+                input.extend(message);
+            } else {
+                continue;
+            }
+            messages -= 1;
+            if messages == 0 {
+                break;
+            }
+        }
+        let input = Hex(self.damaged(input));
+        (Call::Deliver { connection, input }, self.delivery_room(&written))
+    }
+
+    fn delivery_messages(&mut self) -> usize {
+        match self.random.weighted(&[5, 50, 25, 8, 12]) {
+            0 => 0,
+            1 => 1 + self.random.below(6),
+            2 => self.random.below(DELIVERY_MESSAGES),
+            3 => DELIVERY_MESSAGES,
+            _ => DELIVERY_MESSAGES + self.random.below(24),
+        }
+    }
+
+    /// An output's length beside what is written after some message, or after all.
+    fn delivery_room(&mut self, written: &[usize]) -> usize {
+        let (all, some) = (written[written.len() - 1], self.random.pick(written));
+        match self.random.weighted(&[45, 15, 25, 10, 5]) {
+            0 => MOST_ROOM,
+            1 => all,
+            2 => some + self.random.below(HEADING + 2),
+            3 => some.saturating_sub(1 + self.random.below(HEADING + 2)),
+            _ => self.random.below(all + 1),
+        }
+        .min(MOST_ROOM)
+    }
+
+    /// A connection for a client's messages, mostly one that is not closed.
+    fn sender(&mut self, server: &Memory) -> usize {
+        let mut connection = self.any_connection();
+        for _ in 0..3 {
+            let closed = server.marks.lent().get(connection) == Some(&0);
+            if closed || self.is_reader(connection) && self.random.percent(50) {
+                connection = self.any_connection();
+            }
+        }
+        connection
+    }
+
+    fn is_reader(&self, connection: usize) -> bool {
+        self.readers.get(connection) == Some(&true)
+    }
+
+    fn client_message(&mut self, server: &Memory, connection: usize) -> Vec<u8> {
+        let greeted = server.marks.lent().get(connection) == Some(&2);
+        let reader = self.is_reader(connection);
         let weights = match (greeted, reader) {
             (true, false) => [3, 1, 4, 32, 52, 3, 4, 1],
             (true, true) => [3, 1, 20, 50, 14, 4, 7, 1],
@@ -428,9 +497,9 @@ impl Generator {
             3 => self.random.below(exact + 1),
             4 => LONGEST_HELLO_ANSWER,
             5 => exact + 1,
-            _ => self.random.below(LONGEST_HELLO_ANSWER + 64),
+            _ => self.random.below(MOST_ROOM),
         }
-        .min(LONGEST_HELLO_ANSWER + 64)
+        .min(MOST_ROOM)
     }
 
     /// Text of so many bytes.

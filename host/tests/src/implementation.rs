@@ -1,6 +1,6 @@
 //! What is tested: every public call over lent memory.
 
-use nt2_sys::{Answer, Copied, Fields, LentTable, Scalar};
+use nt2_sys::{Answer, Copied, Delivered, Fields, LentTable, Scalar};
 
 /// An implementation of the table server.
 pub trait Implementation {
@@ -16,6 +16,13 @@ pub trait Implementation {
         message: &[u8],
         out: &mut [u8],
     ) -> Answer;
+    fn deliver(
+        table: LentTable<'_>,
+        marks: &mut [u8],
+        connection: usize,
+        input: &[u8],
+        out: &mut [u8],
+    ) -> Delivered;
     fn create(
         table: LentTable<'_>,
         marks: &mut [u8],
@@ -78,6 +85,17 @@ macro_rules! implementation_by {
             ) -> Answer {
                 use $module as calls;
                 calls::receive(table, marks, connection, message, out)
+            }
+
+            fn deliver(
+                table: LentTable<'_>,
+                marks: &mut [u8],
+                connection: usize,
+                input: &[u8],
+                out: &mut [u8],
+            ) -> Delivered {
+                use $module as calls;
+                calls::deliver(table, marks, connection, input, out)
             }
 
             fn create(

@@ -7,6 +7,7 @@ pub mod acceptance;
 pub mod arguments;
 pub mod call;
 pub mod convergence;
+pub mod delivery;
 pub mod differential;
 pub mod ending;
 pub mod fingerprint;

@@ -4,9 +4,9 @@
 //! Arguments: `--seed N`, `--runs N`, `--calls N` of each run, `--seconds N` for all of them.
 
 use nt2_tests::arguments::Arguments;
-use nt2_tests::convergence::run as random_run;
-#[cfg(feature = "library")]
+use nt2_tests::convergence::{Run, run as random_run};
 use nt2_tests::ending::status;
+#[cfg(feature = "library")]
 use nt2_tests::implementation::Library as Tested;
 #[cfg(not(feature = "library"))]
 use nt2_tests::implementation::Reference as Tested;
@@ -22,8 +22,7 @@ fn run() -> Result<(), String> {
     let time = Duration::from_secs(arguments.number("seconds", 240)?);
     println!("convergence, {}: seed {seed}", Tested::NAME);
     let start = Instant::now();
-    let (mut made, mut total, mut done) = (0u64, 0, 0);
-    let (mut clients, mut messages, mut entries) = (0, 0, 0);
+    let (mut made, mut all) = (0u64, Run::default());
     while made < runs && start.elapsed() < time {
         let run_seed = seed.wrapping_add(made);
         let calls = if calls > 0 { calls } else { 1000 + Random::new(run_seed).below(5000) };
@@ -32,23 +31,24 @@ fn run() -> Result<(), String> {
         } else {
             random_run::<Tested, Tested>(run_seed, calls)
         };
-        let run = run.map_err(|failure| format!("run of seed {run_seed}: {failure}"))?;
+        all.add(&run.map_err(|failure| format!("run of seed {run_seed}: {failure}"))?);
         made += 1;
-        total += run.calls;
-        done += run.done;
-        clients += run.compared.clients;
-        messages += run.compared.messages;
-        entries += run.compared.entries;
     }
     let seconds = start.elapsed().as_secs_f64();
-    println!("  {made} runs of {total} calls, {done} done, in {seconds:.1} s");
+    let Run { calls, done, delivered, hellos_delivered, compared } = all;
+    println!("  {made} runs of {calls} calls, {done} done, in {seconds:.1} s");
+    println!("  {delivered} messages in deliveries, {hellos_delivered} of them accepted hellos");
     println!(
-        "  {clients} clients' copies equal at the end: {messages} messages, {entries} entries"
+        "  {} clients' copies equal at the end: {} messages, {} entries",
+        compared.clients, compared.messages, compared.entries
     );
     if made < runs {
         return Err(format!("only {made} of {runs} runs in time"));
     }
-    if clients == 0 { Err("no clean client".into()) } else { Ok(()) }
+    if hellos_delivered == 0 {
+        return Err("no accepted hello in a delivery".into());
+    }
+    if compared.clients == 0 { Err("no clean client".into()) } else { Ok(()) }
 }
 
 fn main() -> ExitCode {

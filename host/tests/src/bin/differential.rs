@@ -5,8 +5,8 @@
 
 use nt2_tests::arguments::Arguments;
 use nt2_tests::differential::{Bounds, compare};
-#[cfg(feature = "library")]
 use nt2_tests::ending::status;
+#[cfg(feature = "library")]
 use nt2_tests::implementation::Library as Compared;
 #[cfg(not(feature = "library"))]
 use nt2_tests::implementation::Reference as Compared;
