@@ -1,7 +1,7 @@
 //! Wrong places of faults. The differential test has to find each in every call that can have it, the
 //! acceptance cases each in some calls. With no wrong place neither finds a difference.
 
-use nt2_sys::{Answer, Copied, Fields, LentTable, Scalar};
+use nt2_sys::{Answer, Copied, Delivered, Fields, LentTable, Scalar};
 use nt2_tests::acceptance::{FILES, folder, replay};
 use nt2_tests::differential::{Bounds, compare};
 use nt2_tests::implementation::{Implementation, Reference};
@@ -19,10 +19,12 @@ const WRITE: usize = 2;
 const ENCODE: usize = 3;
 const DECODE: usize = 4;
 const COPY_RECEIVE: usize = 5;
-const EVERY_CALL: usize = 6;
+const DELIVER: usize = 6;
+const EVERY_CALL: usize = 7;
 
 /// The calls as a failure shows them.
-const SHOWN: [&str; 6] = ["Receive", "Create", "Write", "Encode", "Decode", "CopyReceive"];
+const SHOWN: [&str; 7] =
+    ["Receive", "Create", "Write", "Encode", "Decode", "CopyReceive", "Deliver"];
 
 const TEXT_AT_ITS_LENGTH: usize = 0;
 const TEXT_AT_ITS_BAD_BYTE: usize = 1;
@@ -116,6 +118,19 @@ impl<const CALL: usize, const WRONG: usize> Implementation for Misplaced<CALL, W
         Answer { place: Self::place(RECEIVE, &found), ..answer }
     }
 
+    fn deliver(
+        table: LentTable<'_>,
+        marks: &mut [u8],
+        connection: usize,
+        input: &[u8],
+        out: &mut [u8],
+    ) -> Delivered {
+        let delivered = Reference::deliver(table, marks, connection, input, out);
+        let Delivered { number, place, taken, .. } = delivered;
+        let found = Found::in_message(number, place, &input[taken..]);
+        Delivered { place: Self::place(DELIVER, &found), ..delivered }
+    }
+
     fn create(
         table: LentTable<'_>,
         marks: &mut [u8],
@@ -175,11 +190,12 @@ impl<const CALL: usize, const WRONG: usize> Implementation for Misplaced<CALL, W
     }
 }
 
-/// The differential test finds it, in this call.
+/// The differential test finds it, in this call, or in the single calls beside a delivery.
 fn found<const CALL: usize, const WRONG: usize>() {
     let failure = compare::<Reference, Misplaced<CALL, WRONG>>(BOUNDS).err().unwrap_or_default();
-    let differs = format!("the answers differ\n  {} ", SHOWN[CALL]);
-    assert!(failure.contains(&differs), "{}, wrong place {WRONG}: {failure}", SHOWN[CALL]);
+    let differs = failure.contains(&format!("the answers differ\n  {} ", SHOWN[CALL]))
+        || CALL == RECEIVE && failure.contains("single calls differ");
+    assert!(differs, "{}, wrong place {WRONG}: {failure}", SHOWN[CALL]);
 }
 
 fn found_in_every_call<const WRONG: usize>() {
@@ -189,6 +205,7 @@ fn found_in_every_call<const WRONG: usize>() {
 
 fn found_in_messages<const WRONG: usize>() {
     found::<RECEIVE, WRONG>();
+    found::<DELIVER, WRONG>();
     found::<DECODE, WRONG>();
     found::<COPY_RECEIVE, WRONG>();
 }
@@ -263,6 +280,11 @@ fn acceptance_cases_find_wrong_places() {
     cases_find::<CREATE, GIVEN_TYPE_WITH_A_PLACE>();
     cases_find::<ENCODE, GIVEN_TYPE_WITH_A_PLACE>();
     cases_find_in_every_call::<MISSING_FIELD_WITH_A_PLACE>();
+    cases_find::<DELIVER, TEXT_AT_ITS_LENGTH>();
+    cases_find::<DELIVER, TOO_LONG_BEHIND_THE_LENGTH>();
+    cases_find::<DELIVER, ELEMENT_AT_ITS_ARRAY>();
+    cases_find::<DELIVER, COUNTED_FROM_THE_VALUE>();
+    cases_find::<DELIVER, LAST_BAD_BOOLEAN>();
 }
 
 #[test]

@@ -1,7 +1,7 @@
 //! Short differential and convergence tests with a fixed seed, and wrong implementations that
 //! they have to find. The programs `differential` and `convergence` go further.
 
-use nt2_sys::{Answer, Copied, Fields, LentTable, Scalar};
+use nt2_sys::{Answer, Copied, DELIVERY_MESSAGES, Delivered, Fields, LentTable, Scalar};
 use nt2_tests::convergence::run;
 use nt2_tests::differential::{Bounds, compare};
 #[cfg(feature = "library")]
@@ -38,6 +38,33 @@ const LAST_HEAD_NOT_JUDGED: usize = 4;
 const MARK_BEYOND_CLOSED: usize = 5;
 const WRITE_NOT_STORED: usize = 6;
 const COPY_KEEPS_NUMBER: usize = 7;
+const NO_INPUT_NOT_JUDGED: usize = 8;
+const SIXTY_FOUR_BEFORE_SPENT: usize = 9;
+const REFUSED_MESSAGE_COUNTED: usize = 10;
+const PLACE_FROM_THE_INPUT: usize = 11;
+const IGNORED_NEEDS_ROOM: usize = 12;
+const RECIPIENT_LEFT_OUT: usize = 13;
+const DELIVERY_UNDONE: usize = 14;
+
+/// The answer to a delivery with one fault.
+fn faulty_delivery<const FAULT: usize>(input: &[u8], room: usize, answer: Delivered) -> Delivered {
+    let Delivered { ended, messages, taken, place, .. } = answer;
+    let refused = ended == Delivered::REFUSED;
+    match FAULT {
+        NO_INPUT_NOT_JUDGED if input.is_empty() => {
+            Delivered { ended: Delivered::SPENT, ..Delivered::default() }
+        }
+        SIXTY_FOUR_BEFORE_SPENT if messages == DELIVERY_MESSAGES => {
+            Delivered { ended: Delivered::MOST, ..answer }
+        }
+        REFUSED_MESSAGE_COUNTED if refused => Delivered { messages: messages + 1, ..answer },
+        PLACE_FROM_THE_INPUT if place > 0 => Delivered { place: place + taken, ..answer },
+        IGNORED_NEEDS_ROOM if room == 0 && messages > 0 => {
+            Delivered { number: 12, ..Delivered::default() }
+        }
+        _ => answer,
+    }
+}
 
 impl<const FAULT: usize> Implementation for Faulty<FAULT> {
     const NAME: &'static str = "faulty";
@@ -82,6 +109,26 @@ impl<const FAULT: usize> Implementation for Faulty<FAULT> {
             out[0] = message[0];
         }
         answer
+    }
+
+    fn deliver(
+        table: LentTable<'_>,
+        marks: &mut [u8],
+        connection: usize,
+        input: &[u8],
+        out: &mut [u8],
+    ) -> Delivered {
+        let LentTable { heads, bytes, count } = table;
+        let before = (FAULT == DELIVERY_UNDONE).then(|| bytes.to_vec());
+        let table = LentTable { heads, bytes, count };
+        let delivered = Reference::deliver(table, marks, connection, input, out);
+        if let Some(before) = before.filter(|_| delivered.ended == Delivered::REFUSED) {
+            bytes.copy_from_slice(&before);
+        }
+        if FAULT == RECIPIENT_LEFT_OUT && delivered.written > 0 {
+            out[1] &= out[1].wrapping_sub(1);
+        }
+        faulty_delivery::<FAULT>(input, out.len(), delivered)
     }
 
     fn create(
@@ -177,10 +224,18 @@ fn faults_are_found() {
     found::<MARK_BEYOND_CLOSED>();
     found::<WRITE_NOT_STORED>();
     found::<COPY_KEEPS_NUMBER>();
+    found::<NO_INPUT_NOT_JUDGED>();
+    found::<SIXTY_FOUR_BEFORE_SPENT>();
+    found::<REFUSED_MESSAGE_COUNTED>();
+    found::<PLACE_FROM_THE_INPUT>();
+    found::<IGNORED_NEEDS_ROOM>();
+    found::<RECIPIENT_LEFT_OUT>();
+    found::<DELIVERY_UNDONE>();
 }
 
 #[test]
 fn tables_that_differ_are_found() {
     assert!((0..6).any(|seed| run::<Faulty<WRITE_NOT_STORED>, Reference>(seed, 2000).is_err()));
     assert!((0..6).any(|seed| run::<Reference, Faulty<COPY_KEEPS_NUMBER>>(seed, 2000).is_err()));
+    assert!((0..6).any(|seed| run::<Faulty<RECIPIENT_LEFT_OUT>, Reference>(seed, 2000).is_err()));
 }
