@@ -6,16 +6,20 @@
 #![forbid(unsafe_code)]
 
 use bench::measure::{Effort, calibrate, fastest, time};
-use bench::subject::{CALLS, SIZES, Subject, VALUES, WORST_CASE, has_table, sizes};
+use bench::subject::{
+    CALLS, DELIVER_UPDATES, RECEIVE_UPDATES, SIZES, Subject, TYPICAL, VALUES, WORST_CASE,
+    has_table, sizes,
+};
 use nt2_tests::arguments::Arguments;
 use nt2_tests::ending::status;
 use nt2_tests::implementation::{Library, Reference};
 use std::hint::black_box;
 use std::process::ExitCode;
 
-/// The goals: library by reference, and 64 entries by 16.
+/// The goals: library by reference, 64 entries by 16, and 64 updates as one delivery by single calls.
 const MOST_RATIO: f64 = 1.0;
 const MOST_GROWTH: f64 = 4.0;
+const MOST_DELIVERY: f64 = 0.25;
 
 /// Nanoseconds of one call: library and reference.
 #[derive(Clone, Copy, Default)]
@@ -78,16 +82,31 @@ struct Hello {
     copied: f64,
 }
 
+/// Updates of 64 entries: as one delivery, and by single calls.
+struct Delivery {
+    values: usize,
+    delivered: Times,
+    single: Times,
+}
+
+impl Delivery {
+    /// Library's delivery by its single calls.
+    fn by_single_calls(&self) -> f64 {
+        self.delivered.library / self.single.library
+    }
+}
+
 /// What was measured beside the rows.
 #[derive(Default)]
 struct Measured {
     hellos: Vec<Hello>,
+    deliveries: Vec<Delivery>,
     beyond: Vec<String>,
 }
 
 impl Measured {
-    /// Measures and prints a call's row.
-    fn row(&mut self, values: usize, call: usize, effort: Effort) {
+    /// Measures and prints a call's row, and answers its times.
+    fn row(&mut self, values: usize, call: usize, effort: Effort) -> [Times; SIZES.len()] {
         let name = CALLS[call];
         let mut all = [Times::default(); SIZES.len()];
         print!("{name:<22}");
@@ -110,6 +129,46 @@ impl Measured {
             let row = misses(name, &all, growth.0).into_iter();
             self.beyond.extend(row.map(|miss| format!("{}: {miss}", VALUES[values])));
         }
+        all
+    }
+
+    /// Keeps what the rows of a set of values say of a delivery on the largest table.
+    fn keep_delivery(&mut self, values: usize, rows: &[[Times; SIZES.len()]]) {
+        let largest = |name| {
+            let mut named = CALLS.iter().zip(rows).filter(|(call, _)| **call == name);
+            named.next().map_or(Times::default(), |(_, all)| all[SIZES.len() - 1])
+        };
+        let (delivered, single) = (largest(DELIVER_UPDATES), largest(RECEIVE_UPDATES));
+        let delivery = Delivery { values, delivered, single };
+        let by_single_calls = delivery.by_single_calls();
+        if values == TYPICAL && is_beyond(by_single_calls, MOST_DELIVERY) {
+            let miss = format!("{DELIVER_UPDATES} by single calls: {by_single_calls:.2}");
+            self.beyond.push(format!("{}: {miss}", VALUES[values]));
+        }
+        self.deliveries.push(delivery);
+    }
+
+    fn print_deliveries(&self) {
+        println!(
+            "\n64 updates of 64 entries: one delivery, single calls, the reference's delivery\n"
+        );
+        println!(
+            "{:<46} {:>10} {:>10} {:>7} {:>10} {:>7}",
+            "values", "delivery", "single", "ratio", "reference", "ratio"
+        );
+        for delivery in &self.deliveries {
+            let Delivery { values, delivered, single } = delivery;
+            println!(
+                "{:<46} {:>10.1} {:>10.1} {:>7.2} {:>10.1} {:>7.2}",
+                VALUES[*values],
+                delivered.library,
+                single.library,
+                delivery.by_single_calls(),
+                delivered.reference,
+                ratio(*delivered)
+            );
+        }
+        println!("goals, typical values: {MOST_DELIVERY:.2} and {MOST_RATIO:.2}");
     }
 
     fn print_hellos(&self) {
@@ -146,11 +205,17 @@ fn run() -> Result<(), String> {
             "\n{:<22} {:>26} {:>26} {:>26}  {:>15}",
             "call", "1 entry", "16 entries", "64 entries", "growth"
         );
-        (0..CALLS.len()).for_each(|call| measured.row(values, call, effort));
+        let rows = (0..CALLS.len()).map(|call| measured.row(values, call, effort));
+        let rows: Vec<_> = rows.collect();
+        measured.keep_delivery(values, &rows);
     }
     measured.print_hellos();
+    measured.print_deliveries();
     let beyond = measured.beyond;
-    println!("\nbeyond the goals, {MOST_RATIO:.2} and {MOST_GROWTH:.2}: {}", beyond.len());
+    println!(
+        "\nbeyond the goals, {MOST_RATIO:.2}, {MOST_GROWTH:.2} and {MOST_DELIVERY:.2}: {}",
+        beyond.len()
+    );
     beyond.iter().for_each(|miss| println!("  {miss}"));
     Ok(())
 }

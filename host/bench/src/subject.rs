@@ -1,8 +1,8 @@
 //! A table with messages for it, on which each call can be repeated.
 
 use nt2_sys::{
-    Answer, CONNECTIONS, Copied, ENTRIES, ENTRY_ROOM, Head, LONGEST_HELLO_ANSWER, LentTable,
-    NAME_ROOM, TABLE_BYTES,
+    Answer, CONNECTIONS, Copied, DELIVERY_MESSAGES, Delivered, ENTRIES, ENTRY_ROOM, HEADING, Head,
+    LONGEST_HELLO_ANSWER, LentTable, NAME_ROOM, TABLE_BYTES,
 };
 use nt2_tests::implementation::Implementation;
 use std::hint::black_box;
@@ -15,9 +15,15 @@ pub const VALUES: [&str; 4] = [
 ];
 /// The place of the values that are the worst case for the library's test that names differ.
 pub const WORST_CASE: usize = 3;
+/// The place of the values that the goal of a delivery is about.
+pub const TYPICAL: usize = 1;
+
+/// As many updates as a delivery takes: in one delivery, and by single calls.
+pub const DELIVER_UPDATES: &str = "deliver 64 updates";
+pub const RECEIVE_UPDATES: &str = "receive 64 updates";
 
 /// The calls; those from `TABLE_CALLS` on have no table.
-pub const CALLS: [&str; 21] = [
+pub const CALLS: [&str; 23] = [
     "fresh",
     "open",
     "leave",
@@ -27,6 +33,8 @@ pub const CALLS: [&str; 21] = [
     "receive held entry",
     "receive new update",
     "receive old update",
+    DELIVER_UPDATES,
+    RECEIVE_UPDATES,
     "create",
     "write",
     "write equal",
@@ -40,7 +48,7 @@ pub const CALLS: [&str; 21] = [
     "decode assignment",
     "decode update",
 ];
-const TABLE_CALLS: usize = 17;
+const TABLE_CALLS: usize = 19;
 
 /// How many entries the tables have.
 pub const SIZES: [usize; 3] = [1, 16, 64];
@@ -53,6 +61,9 @@ pub fn has_table(call: usize) -> bool {
 pub fn sizes(call: usize) -> &'static [usize] {
     if has_table(call) { &SIZES } else { &SIZES[..1] }
 }
+
+/// The number that every entry has at first.
+const FIRST_NUMBER: u16 = 1;
 
 /// The connection that calls; all others are greeted.
 const SENDER: usize = 3;
@@ -72,6 +83,8 @@ pub struct Subject {
     assignment: Vec<u8>,
     copied_assignment: Vec<u8>,
     update: Vec<u8>,
+    /// Updates of all entries in turn, each applied where the numbers are the first ones.
+    updates: Vec<u8>,
     hello_sent: usize,
 }
 
@@ -112,6 +125,19 @@ fn assignment(name: &[u8], type_code: u8, id: u16, value: &[u8]) -> Vec<u8> {
     [&[0x10][..], &prefixed(name), &fields].concat()
 }
 
+fn update(id: u16, number: u16, value: &[u8]) -> Vec<u8> {
+    [&[0x11][..], &id.to_be_bytes(), &number.to_be_bytes(), value].concat()
+}
+
+/// Updates as `Subject` has them.
+fn updates(values: usize, entries: usize) -> Vec<u8> {
+    let update = |place: usize| {
+        let (i, number) = (place % entries, FIRST_NUMBER + 1 + (place / entries) as u16);
+        update(i as u16, number, &entry(values, i, 1).2)
+    };
+    (0..DELIVERY_MESSAGES).flat_map(update).collect()
+}
+
 impl Subject {
     pub fn new(values: usize, entries: usize) -> Self {
         let mut heads = vec![Head::default(); ENTRIES];
@@ -122,7 +148,7 @@ impl Subject {
                 name_length: name.len() as u16,
                 value_length: value.len() as u16,
                 type_code: u16::from(type_code),
-                number: 1,
+                number: FIRST_NUMBER,
             };
             bytes[ENTRY_ROOM * i..][..name.len()].copy_from_slice(&name);
             bytes[ENTRY_ROOM * i + NAME_ROOM..][..value.len()].copy_from_slice(&value);
@@ -147,7 +173,8 @@ impl Subject {
             type_code,
             assignment: assignment(&name, type_code, 0xFFFF, &value),
             copied_assignment: assignment(&name, type_code, id, &value),
-            update: [&[0x11][..], &id.to_be_bytes(), &[0, 1], &value].concat(),
+            update: update(id, FIRST_NUMBER, &value),
+            updates: updates(values, entries),
             name,
             values: [value, other],
             version: 0,
@@ -168,6 +195,12 @@ impl Subject {
         let Subject { heads, bytes, count, marks, out, .. } = self;
         let table = LentTable { heads, bytes, count };
         black_box(I::receive(table, marks, black_box(SENDER), black_box(message), out))
+    }
+
+    fn deliver<I: Implementation>(&mut self, input: &[u8]) -> Delivered {
+        let Subject { heads, bytes, count, marks, out, .. } = self;
+        let table = LentTable { heads, bytes, count };
+        black_box(I::deliver(table, marks, black_box(SENDER), black_box(input), out))
     }
 
     fn copy_receive<I: Implementation>(&mut self, message: &[u8]) -> Copied {
@@ -230,6 +263,9 @@ impl Subject {
                     assert_eq!(self.receive::<I>(&message).number, if old == 1 { 16 } else { 0 });
                 }
                 self.marks[SENDER] = 1;
+            }
+            DELIVER_UPDATES | RECEIVE_UPDATES => {
+                self.take_updates::<I>(CALLS[call] == DELIVER_UPDATES, times);
             }
             "create" => {
                 let (name, value) = (self.name.clone(), self.values[0].clone());
@@ -311,6 +347,28 @@ impl Subject {
                 }
             }
         }
+    }
+
+    /// Takes all updates, each of which is applied: as one delivery, or by single calls.
+    fn take_updates<I: Implementation>(&mut self, delivered: bool, times: usize) {
+        let updates = self.updates.clone();
+        self.marks[SENDER] = 2;
+        for _ in 0..times {
+            let held = &mut self.heads[..usize::from(self.count)];
+            held.iter_mut().for_each(|head| head.number = FIRST_NUMBER);
+            if delivered {
+                let delivered = self.deliver::<I>(&updates);
+                assert_eq!(delivered.written, updates.len() + DELIVERY_MESSAGES * HEADING);
+            } else {
+                let mut taken = 0;
+                while taken < updates.len() {
+                    let answer = self.receive::<I>(&updates[taken..]);
+                    assert_eq!(answer.number, 0);
+                    taken += answer.taken;
+                }
+            }
+        }
+        self.marks[SENDER] = 1;
     }
 
     fn open_or_leave<I: Implementation>(&mut self, open: bool, times: usize) {

@@ -1,6 +1,6 @@
 //! Two libraries beside each other: runs the `rows` of an earlier checkout and of this one in turn,
-//! and prints every row's best time in both and their ratio, the highest last. The last line says how
-//! many rows are above the limit.
+//! and prints every row's best time in both and their ratio, the highest last, and the rows that are
+//! new. The last line says how many rows are above the limit.
 //!
 //! Arguments: `--before ROWS`, `--now ROWS` (else the one beside this program), `--runs N`.
 
@@ -46,10 +46,10 @@ fn run_once(program: &Path, best: &mut Rows) -> Result<(), String> {
     Ok(())
 }
 
-/// All rows with their ratios, the lowest first. Both sides have to have the same rows, and some.
+/// All earlier rows with their ratios, the lowest first. There have to be some, and each of them now.
 fn ratios<'a>(before: &'a Rows, now: &Rows) -> Result<Vec<(f64, &'a str)>, String> {
-    if before.is_empty() || !before.keys().eq(now.keys()) {
-        return Err("the two programs do not print the same rows".to_string());
+    if before.is_empty() || !before.keys().all(|name| now.contains_key(name)) {
+        return Err("the earlier program prints other rows".to_string());
     }
     let mut all: Vec<_> =
         before.iter().map(|(name, earlier)| (now[name] / earlier, name.as_str())).collect();
@@ -71,6 +71,9 @@ fn run() -> Result<(), String> {
     println!("{:>10} {:>10} {:>6}", "before", "now", "ratio");
     for (ratio, name) in &all {
         println!("{:>10.1} {:>10.1} {ratio:>6.3}  {name}", before[*name], now[*name]);
+    }
+    for (name, nanoseconds) in now.iter().filter(|(name, _)| !before.contains_key(*name)) {
+        println!("{:>10} {nanoseconds:>10.1} {:>6}  {name}", "-", "new");
     }
     let mean = (all.iter().map(|(ratio, _)| ratio.ln()).sum::<f64>() / all.len() as f64).exp();
     let above = all.iter().filter(|(ratio, _)| *ratio > MOST_RATIO).count();
@@ -95,9 +98,9 @@ mod tests {
     }
 
     #[test]
-    fn other_rows_are_not_compared() {
+    fn no_earlier_row_is_left_out() {
         let (one, two) = (parse("1.0\ta").unwrap(), parse("1.0\ta\n1.0\tb").unwrap());
-        assert!(ratios(&one, &two).is_err());
+        assert_eq!(ratios(&one, &two).unwrap(), [(1.0, "a")]);
         assert!(ratios(&two, &one).is_err());
         assert!(ratios(&Rows::new(), &Rows::new()).is_err());
     }
