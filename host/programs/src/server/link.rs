@@ -45,14 +45,20 @@ impl Link {
         Ok(Link { stream, linger, state: Mutex::new(state), changed: Condvar::new() })
     }
 
-    /// Lets bytes wait behind the earlier ones; false where they would be too many.
+    /// Lets messages wait behind the earlier ones; false where their bytes would be too many.
     #[must_use]
-    pub fn push(&self, bytes: &[u8]) -> bool {
-        let mut state = self.lock();
-        if state.waiting.len() + bytes.len() > MOST_WAITING {
-            return false;
+    pub fn push<'a>(&self, messages: impl Iterator<Item = &'a [u8]>) -> bool {
+        let mut messages = messages.peekable();
+        if messages.peek().is_none() {
+            return true;
         }
-        state.waiting.extend_from_slice(bytes);
+        let mut state = self.lock();
+        for bytes in messages {
+            if state.waiting.len() + bytes.len() > MOST_WAITING {
+                return false;
+            }
+            state.waiting.extend_from_slice(bytes);
+        }
         self.changed.notify_all();
         true
     }
@@ -156,6 +162,7 @@ impl Link {
 #[cfg(test)]
 mod tests {
     use super::*;
+    use std::iter;
     use std::net::TcpListener;
     use std::thread;
 
@@ -165,7 +172,7 @@ mod tests {
         let _client = TcpStream::connect(listener.local_addr().unwrap()).unwrap();
         let link = Link::new(listener.accept().unwrap().0, Settings::default()).unwrap();
         link.shut(Shutdown::Write);
-        assert!(link.push(&[0]));
+        assert!(link.push(iter::once(&[0][..])));
         let reason = thread::scope(|scope| {
             scope.spawn(|| link.write());
             link.read(|_| true)

@@ -4,7 +4,9 @@ use super::link::Link;
 use super::notices::Notices;
 use super::{Settings, spawn};
 use crate::notice::{Notice, Reason};
-use nt2::{CONNECTIONS, LONGEST_HELLO_ANSWER, Received, Recipients, Refusal, ServerTable, State};
+use nt2::{
+    CONNECTIONS, Delivery, Ended, HEADING, LONGEST_HELLO_ANSWER, Refusal, Sent, ServerTable, State,
+};
 use std::collections::VecDeque;
 use std::io;
 use std::mem;
@@ -58,7 +60,7 @@ impl Owner {
             clients: [const { None }; CONNECTIONS],
             lingering: VecDeque::new(),
             accepted: 0,
-            output: vec![0; LONGEST_HELLO_ANSWER],
+            output: vec![0; HEADING + LONGEST_HELLO_ANSWER],
             events,
             settings,
             notices,
@@ -133,34 +135,30 @@ impl Owner {
         }
     }
 
-    /// Makes the call on a connection's bytes until none are left, the next message is not complete
+    /// Makes deliveries of a connection's bytes until none are left, the next message is not complete
     /// or the connection is closed. Answers how many bytes were taken.
     fn take_messages(&mut self, connection: usize, bytes: &[u8]) -> usize {
         let mut all = 0;
-        while all < bytes.len() && self.clients[connection].is_some() {
-            match self.table.receive(connection, &bytes[all..], &mut self.output) {
-                Ok(Received::Done { taken, sent }) => {
-                    all += taken;
-                    let (length, recipients) = (sent.bytes.len(), sent.recipients);
-                    self.send(length, recipients);
-                    if self.table.state(connection) == Some(State::Closed) {
-                        self.close(connection, Reason::OtherRevision);
-                    }
-                }
-                Ok(Received::Ignored { taken }) => all += taken,
-                Err(Refusal::Incomplete) => break,
-                Err(refusal) => self.refuse(connection, refusal),
-            }
-        }
-        all
-    }
-
-    /// Sends the first bytes of the output to the recipients. One that does not read is dropped.
-    fn send(&mut self, length: usize, recipients: Recipients) {
-        for connection in recipients.iter() {
-            let bytes = &self.output[..length];
-            if self.clients[connection].as_ref().is_some_and(|client| !client.link.push(bytes)) {
+        loop {
+            let delivery = self.table.deliver(connection, &bytes[all..], &mut self.output);
+            let (ended, taken) = (delivery.ended, delivery.taken);
+            for connection in send(delivery, &self.clients) {
                 self.close(connection, Reason::NotReading);
+            }
+            all += taken;
+            if self.table.state(connection) == Some(State::Closed) {
+                self.close(connection, Reason::OtherRevision);
+                return all;
+            }
+            match ended {
+                Ended::Most => {}
+                // The output is empty again, and has room for any message.
+                Ended::Refused(Refusal::Room) if taken > 0 => {}
+                Ended::Spent | Ended::Refused(Refusal::Incomplete) => return all,
+                Ended::Refused(refusal) => {
+                    self.refuse(connection, refusal);
+                    return all;
+                }
             }
         }
     }
@@ -205,4 +203,14 @@ impl Owner {
             oldest.abandon();
         }
     }
+}
+
+/// Sends what a delivery has for each client, in its order. Answers the connections that do not read.
+fn send(delivery: Delivery<'_>, clients: &[Option<Client>]) -> Vec<usize> {
+    let does_not_read = |client: &&Client| {
+        let addressed = |sent: &Sent<'_>| sent.recipients.contains(client.key.connection);
+        !client.link.push(delivery.sent().filter(addressed).map(|sent| sent.bytes))
+    };
+    let not_reading = clients.iter().flatten().filter(does_not_read);
+    not_reading.map(|client| client.key.connection).collect()
 }

@@ -1,9 +1,13 @@
 //! The server, from the other end of its streams.
 
 use crate::support::{HELLO, TIMEOUT, TestClient, TestServer, assert_same, bytes_of, new_entry};
-use nt2::{CONNECTIONS, Copied, LONGEST_UPDATE, Message, Type};
+use nt2::{
+    CONNECTIONS, Copied, DELIVERY_MESSAGES, ENTRIES, LONGEST_UPDATE, Message, NAME_ROOM, Type,
+    VALUE_ROOM,
+};
 use nt2_programs::server::{MOST_LINGERING, MOST_NOTICES, MOST_WAITING, Settings};
 use std::net::SocketAddr;
+use std::ops::Range;
 use std::sync::mpsc::channel;
 use std::thread;
 use std::time::{Duration, Instant};
@@ -14,6 +18,18 @@ const PARENTS: &[u8] = b"\x02\x00\x05lot/1\x00\x05lot/2";
 
 fn boolean_update(id: u16, number: u16, value: &[u8]) -> Message<'_> {
     Message::Update { value_type: Type::Boolean, id, number, value }
+}
+
+/// Updates with these numbers, as bytes.
+fn boolean_updates(id: u16, numbers: Range<u16>) -> Vec<u8> {
+    numbers.flat_map(|number| bytes_of(&boolean_update(id, number, &[1]))).collect()
+}
+
+/// A String of the largest size.
+fn largest_value() -> Vec<u8> {
+    let mut value = vec![b'x'; VALUE_ROOM];
+    value[..2].copy_from_slice(&(VALUE_ROOM as u16 - 2).to_be_bytes());
+    value
 }
 
 #[test]
@@ -91,6 +107,66 @@ fn messages_in_pieces_and_together() {
 }
 
 #[test]
+fn more_messages_together_than_a_delivery_takes() {
+    let server = TestServer::start();
+    let (mut sender, mut reader) = (server.greeted(), server.greeted());
+    let id = sender.create("tare", Type::Boolean, &[0]);
+    reader.expect(id, 1);
+    let end = 2 + 2 * DELIVERY_MESSAGES as u16 + 10;
+    // The last one is cut.
+    let updates = boolean_updates(id, 2..end);
+    let (most, cut) = updates.split_at(updates.len() - 2);
+    sender.send_bytes(most);
+    (2..end - 1).for_each(|number| reader.expect(id, number));
+    sender.send_bytes(&[cut, &bytes_of(&new_entry("gross", Type::Boolean, &[1]))].concat());
+    reader.expect(id, end - 1);
+    reader.expect(id + 1, 1);
+    sender.expect(id + 1, 1);
+}
+
+#[test]
+fn messages_before_a_refused_one_stand() {
+    let server = TestServer::start();
+    let (mut sender, mut reader) = (server.connected(0), server.connected(1));
+    sender.greet();
+    reader.greet();
+    let id = sender.create("tare", Type::Boolean, &[0]);
+    reader.expect(id, 1);
+    let end = 2 + DELIVERY_MESSAGES as u16 + 10;
+    let mut stream = boolean_updates(id, 2..end);
+    stream.extend(bytes_of(&new_entry("gross", Type::Boolean, &[1])));
+    stream.extend(b"\x11\x00\x00\xFF\x00\x02");
+    stream.extend(boolean_updates(id, end..end + 10));
+    sender.send_bytes(&stream);
+    (2..end).for_each(|number| reader.expect(id, number));
+    reader.expect(id + 1, 1);
+    sender.expect(id + 1, 1);
+    sender.expect_end();
+    let refused =
+        "connection 0: refused with 8, Boolean byte is not 0 or 1, at byte 5 of the message";
+    assert_eq!(server.next_notice(), refused);
+    assert_eq!(server.next_notice(), "connection 0: left, a message was refused");
+    assert_eq!(server.greeted().copy.entry(id).unwrap().number, end - 1);
+}
+
+#[test]
+fn messages_behind_the_longest_hello_answer() {
+    let server = TestServer::start();
+    let (mut writer, value) = (server.greeted(), largest_value());
+    for entry in 0..ENTRIES {
+        writer.create(&format!("{entry:0NAME_ROOM$}"), Type::String, &value);
+    }
+    let update =
+        |id| bytes_of(&Message::Update { value_type: Type::String, id, number: 2, value: &value });
+    let mut client = server.connected(1);
+    client.send_bytes(&[bytes_of(&HELLO), update(5), update(6)].concat());
+    while !matches!(client.next(), Copied::HelloComplete { .. }) {}
+    assert_same(&client.copy, &writer.copy);
+    writer.expect(5, 2);
+    writer.expect(6, 2);
+}
+
+#[test]
 fn damaged_message_closes_its_sender_only() {
     let server = TestServer::start();
     let (mut other, mut sender) = (server.connected(0), server.connected(1));
@@ -139,13 +215,15 @@ fn notice_says_where_the_fault_is() {
 #[test]
 fn hello_for_another_revision_is_answered_and_closed() {
     let server = TestServer::start();
-    let mut client = server.connected(0);
-    let mut stream = bytes_of(&Message::Hello { revision: 0x0300 });
-    stream.extend(bytes_of(&HELLO));
-    client.send_bytes(&stream);
-    assert_eq!(client.bytes(3), [0x02, 0x02, 0x00]);
-    client.expect_end();
-    assert_eq!(server.next_notice(), "connection 0: left, hello for another revision");
+    // What stands behind it is dropped, whatever it is.
+    for behind in [bytes_of(&HELLO), vec![UNKNOWN_KIND], vec![0x11, 0x00], Vec::new()] {
+        let mut client = server.connected(0);
+        let hello = bytes_of(&Message::Hello { revision: 0x0300 });
+        client.send_bytes(&[hello, behind].concat());
+        assert_eq!(client.bytes(3), [0x02, 0x02, 0x00]);
+        client.expect_end();
+        assert_eq!(server.next_notice(), "connection 0: left, hello for another revision");
+    }
     server.connected(0).greet();
 }
 
@@ -238,8 +316,7 @@ fn client_that_does_not_read_is_dropped() {
     let mut does_not_read = server.connected(0);
     does_not_read.greet();
     let (mut writer, mut reader) = (server.greeted(), server.greeted());
-    let mut value = vec![b'x'; 256];
-    value[..2].copy_from_slice(&254u16.to_be_bytes());
+    let value = largest_value();
     let id = writer.create("weight", Type::String, &value);
     reader.expect(id, 1);
     let (mut number, mut rounds) = (1u16, 0);
