@@ -1,6 +1,6 @@
-/* Uses every call of nt2.h and checks its answers: the listing of the build description, a client's
- * copy that follows a server, single messages, and the places of faults. Prints the listing, and
- * ends with 1 at the first answer that is not as expected.
+/* Uses every call of nt2.h and checks its answers: the listing of the build description, the same
+ * messages as a delivery, a client's copy that follows a server, single messages, and the places of
+ * faults. Prints the listing, and ends with 1 at the first answer that is not as expected.
  *
  * All that is lent is a heap block of its own, exactly as long as it is lent, so that valgrind sees
  * each access beyond it.
@@ -23,6 +23,13 @@ _Static_assert(offsetof(nt2_answer, recipients) == 2, "an answer's recipients");
 _Static_assert(offsetof(nt2_answer, taken) == 8, "an answer's bytes taken");
 _Static_assert(offsetof(nt2_answer, sent) == 16, "an answer's bytes sent");
 _Static_assert(offsetof(nt2_answer, place) == 24, "the place of an answer's fault");
+
+_Static_assert(sizeof(nt2_delivered) == 40, "what came of a delivery");
+_Static_assert(offsetof(nt2_delivered, ended) == 1, "how a delivery ended");
+_Static_assert(offsetof(nt2_delivered, messages) == 8, "a delivery's messages");
+_Static_assert(offsetof(nt2_delivered, taken) == 16, "a delivery's bytes taken");
+_Static_assert(offsetof(nt2_delivered, written) == 24, "a delivery's bytes written");
+_Static_assert(offsetof(nt2_delivered, place) == 32, "the place of a delivery's fault");
 
 _Static_assert(sizeof(nt2_scalar) == 16, "a scalar");
 _Static_assert(offsetof(nt2_scalar, found) == 1, "what a scalar's value is");
@@ -131,6 +138,20 @@ static bool refused_at(nt2_answer answer, uint8_t number, size_t place) {
            answer.sent == 0 && answer.recipients == 0;
 }
 
+/* A delivery that ended without a refusal. */
+static bool delivers(nt2_delivered d, uint8_t ended, size_t messages, size_t taken,
+                     size_t written) {
+    return d.number == NT2_DONE && d.ended == ended && d.messages == messages &&
+           d.taken == taken && d.written == written && d.place == 0;
+}
+
+/* A delivery that ended at a refusal tells what came before it. */
+static bool delivers_until(nt2_delivered d, uint8_t number, size_t place, size_t messages,
+                           size_t taken, size_t written) {
+    return d.number == number && d.place == place && d.ended == NT2_ENDED_REFUSED &&
+           d.messages == messages && d.taken == taken && d.written == written;
+}
+
 /* A refusal of the copy and of the reader has number and place alone. */
 
 static bool copy_refused_at(nt2_copied copied, uint8_t number, size_t place) {
@@ -155,6 +176,16 @@ static nt2_answer receive(table t, size_t connection, const void *message, size_
     check_rest(out, a.sent);
     free_input(input, message);
     return a;
+}
+
+static nt2_delivered deliver(table t, size_t connection, const void *bytes, size_t length,
+                             block *out, size_t room) {
+    block input = new_input(bytes, length);
+    new_output(out, room);
+    nt2_delivered d = nt2_deliver(SERVER(t), connection, LENT(input), LENT(*out));
+    check_rest(out, d.written);
+    free_input(input, bytes);
+    return d;
 }
 
 static nt2_answer create(table t, const char *name, size_t name_length, uint8_t type_code,
@@ -210,10 +241,12 @@ static nt2_copied copy_receive(table copy, const void *message, size_t length) {
     return c;
 }
 
+/* The build description's example: a hello, a new entry, an update, an old one and a keep alive. */
+static const uint8_t stream[] = {0x01, 0x02, 0x00, 0x10, 0x00, 0x01, 0x61, 0x00, 0xFF,
+                                 0xFF, 0x00, 0x00, 0x01, 0x11, 0x00, 0x00, 0x00, 0x02,
+                                 0x00, 0x11, 0x00, 0x00, 0x00, 0x02, 0x01, 0x00};
+
 static void listing(void) {
-    static const uint8_t input[] = {0x01, 0x02, 0x00, 0x10, 0x00, 0x01, 0x61, 0x00, 0xFF,
-                                    0xFF, 0x00, 0x00, 0x01, 0x11, 0x00, 0x00, 0x00, 0x02,
-                                    0x00, 0x11, 0x00, 0x00, 0x00, 0x02, 0x01, 0x00};
     static const char expected[] = "offset taken answer to sent\n"
                                    "0 3 0 0001 1\n"
                                    "3 10 0 0001 10\n"
@@ -229,8 +262,8 @@ static void listing(void) {
     CHECK(answers(nt2_fresh(SERVER(t)), NT2_DONE, 0, 0, 0));
     CHECK(answers(nt2_open(SERVER(t), 0), NT2_DONE, 0, 0, 0));
     length += (size_t)sprintf(text + length, "offset taken answer to sent\n");
-    while (offset < sizeof input) {
-        nt2_answer a = receive(t, 0, input + offset, sizeof input - offset, &out,
+    while (offset < sizeof stream) {
+        nt2_answer a = receive(t, 0, stream + offset, sizeof stream - offset, &out,
                                NT2_LONGEST_HELLO_ANSWER);
         length += (size_t)sprintf(text + length, "%zu %zu %u %04x %zu\n", offset, a.taken,
                                   (unsigned)a.number, (unsigned)a.recipients, a.sent);
@@ -241,6 +274,67 @@ static void listing(void) {
     sprintf(text + length, "end %zu entries %u\n", offset, (unsigned)*t.count);
     fputs(text, stdout);
     CHECK(strcmp(text, expected) == 0);
+    free(out.bytes);
+    free_table(t);
+}
+
+/* Opens connection 0 of a fresh table. */
+static void open_fresh(table t) {
+    CHECK(nt2_fresh(SERVER(t)).number == NT2_DONE);
+    CHECK(nt2_open(SERVER(t), 0).number == NT2_DONE);
+}
+
+/* What the example's first three messages write: for each a heading and what is sent. */
+static const uint8_t stream_written[] = {
+    0x00, 0x01, 0x00, 0x00, 0x00, 0x01, /* to connection 0: */
+    0x03,                               /* hello complete */
+    0x00, 0x01, 0x00, 0x00, 0x00, 0x0A, /* to connection 0: */
+    0x10, 0x00, 0x01, 0x61, 0x00, 0x00, 0x00, 0x00, 0x01, 0x01,
+    0x00, 0x00, 0x00, 0x00, 0x00, 0x06, /* to no one, since the sender gets no update of its own: */
+    0x11, 0x00, 0x00, 0x00, 0x02, 0x00};
+
+/* Each room for the example's output: a message has room whole, with its heading, or not at all. */
+static void rooms_of_a_delivery(table t, block *out) {
+    static const size_t ends[] = {0, 7, 23, 35}, taken[] = {0, 3, 13, sizeof stream};
+    for (size_t room = 0, done = 0; room < sizeof stream_written; room++) {
+        while (ends[done + 1] <= room)
+            done++;
+        open_fresh(t);
+        nt2_delivered d = deliver(t, 0, stream, sizeof stream, out, room);
+        CHECK(delivers_until(d, NT2_ROOM, 0, done, taken[done], ends[done]));
+        CHECK(memcmp(out->bytes, stream_written, d.written) == 0);
+    }
+    open_fresh(t);
+    nt2_delivered d = deliver(t, 0, stream, sizeof stream, out, sizeof stream_written);
+    CHECK(delivers(d, NT2_ENDED_SPENT, 5, sizeof stream, sizeof stream_written));
+    CHECK(memcmp(out->bytes, stream_written, d.written) == 0);
+}
+
+static void ends_of_a_delivery(table t, block *out) {
+    static const uint8_t keep_alives[NT2_DELIVERY_MESSAGES + 1] = {0};
+    static const char good_and_bad[] = "\x11\x00\x00\x00\x03\x01\x11\x00\x00\x00\x04\x02";
+    static const char revision_3[] = "\x01\x03\x00\x00";
+    nt2_delivered d = deliver(t, 0, keep_alives, NT2_DELIVERY_MESSAGES, out, 0);
+    CHECK(delivers(d, NT2_ENDED_SPENT, 64, 64, 0));
+    d = deliver(t, 0, keep_alives, sizeof keep_alives, out, 0);
+    CHECK(delivers(d, NT2_ENDED_MOST, 64, 64, 0));
+    d = deliver(t, 0, good_and_bad, sizeof good_and_bad - 1, out, 100);
+    CHECK(delivers_until(d, NT2_NOT_BOOLEAN, 5, 1, 6, NT2_HEADING + 6));
+    CHECK(delivers_until(deliver(t, 1, "", 0, out, 100), NT2_STATE, 0, 0, 0, 0));
+    CHECK(delivers_until(deliver(t, 16, "", 0, out, 100), NT2_NO_SUCH_CONNECTION, 0, 0, 0, 0));
+    CHECK(delivers(deliver(t, 0, "", 0, out, 0), NT2_ENDED_SPENT, 0, 0, 0));
+    CHECK(nt2_open(SERVER(t), 1).number == NT2_DONE);
+    d = deliver(t, 1, revision_3, sizeof revision_3 - 1, out, 100);
+    CHECK(delivers_until(d, NT2_STATE, 0, 1, 3, NT2_HEADING + 3));
+    t.heads[0].type_code = 3;
+    CHECK(delivers_until(deliver(t, 0, "", 0, out, 100), NT2_UNSOUND, 0, 0, 0, 0));
+}
+
+static void deliveries(void) {
+    table t = new_table();
+    block out = {NULL, 0};
+    rooms_of_a_delivery(t, &out);
+    ends_of_a_delivery(t, &out);
     free(out.bytes);
     free_table(t);
 }
@@ -482,6 +576,7 @@ static void places_of_faults(void) {
 
 int main(void) {
     listing();
+    deliveries();
     server_and_copy();
     there_and_back();
     places_of_faults();

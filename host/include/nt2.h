@@ -112,10 +112,10 @@ typedef struct {
     size_t place;
 } nt2_answer;
 
-/* What came of a delivery: how it ended, the messages taken, which are the done and the ignored ones,
- * their bytes, the bytes written, and with NT2_ENDED_REFUSED the number and the place of the message
- * that was refused. What the messages before it did stands and is reported too. With
- * NT2_ENDED_SPENT no input is left, with NT2_ENDED_MOST some is; the number is then 0.
+/* What came of a delivery: how it ended, the messages taken (those done and those ignored), their
+ * bytes, and the bytes written. At a refusal number and place tell of the message that was refused;
+ * the messages before it stand and are reported. Otherwise the number is 0: no input is left
+ * (NT2_ENDED_SPENT), or the most messages were taken and some is (NT2_ENDED_MOST).
  */
 typedef struct {
     uint8_t number;
@@ -177,15 +177,15 @@ nt2_answer nt2_receive(nt2_head *heads, size_t heads_length, uint8_t *bytes, siz
                        const uint8_t *message, size_t message_length, uint8_t *out,
                        size_t out_length);
 
-/* Takes a client's messages in order, each as nt2_receive does, until one is refused, no input is left
- * or 64 are taken. The table is judged once. NT2_UNSOUND, NT2_NO_SUCH_CONNECTION and, for a closed
- * connection, NT2_STATE come first, without input too.
+/* Takes a client's messages in order, each as nt2_receive does, until one is refused, no input is
+ * left or 64 are taken. The table is judged once. NT2_UNSOUND, NT2_NO_SUCH_CONNECTION and, for a
+ * closed connection, NT2_STATE come first, without input too.
  *
- * The output has, for each message done and in their order, a heading and the bytes to be sent. The
- * heading is the recipients (2 bytes) and the number of these bytes (4), both big endian. A message
- * is refused with NT2_ROOM if heading and bytes together do not fit; one that is ignored needs no
- * room. NT2_HEADING + NT2_LONGEST_HELLO_ANSWER bytes are enough for any first message, so that the
- * rest of the input can follow in a further delivery. The output past `written` is unchanged.
+ * The output has, for each message that is done, a heading and the bytes to be sent. The heading is
+ * the recipients (2 bytes) and the number of these bytes (4 bytes), both big endian. A message is
+ * refused with NT2_ROOM if heading and bytes do not fit together; one that is ignored needs no
+ * room. NT2_HEADING + NT2_LONGEST_HELLO_ANSWER bytes have room for any message, so one that had no
+ * room behind others has it in a further delivery.
  */
 nt2_delivered nt2_deliver(nt2_head *heads, size_t heads_length, uint8_t *bytes,
                           size_t bytes_length, uint16_t *count, uint8_t *marks,

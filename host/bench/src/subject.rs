@@ -104,7 +104,7 @@ fn shared_name(i: usize) -> Vec<u8> {
 }
 
 /// Name and value of an entry, the value in two versions.
-fn entry(values: usize, i: usize, version: usize) -> (Vec<u8>, u8, Vec<u8>) {
+pub fn entry(values: usize, i: usize, version: usize) -> (Vec<u8>, u8, Vec<u8>) {
     match values {
         0 => (format!("e{i:02}").into_bytes(), 0x00, vec![version as u8]),
         1 => {
@@ -120,12 +120,12 @@ fn entry(values: usize, i: usize, version: usize) -> (Vec<u8>, u8, Vec<u8>) {
     }
 }
 
-fn assignment(name: &[u8], type_code: u8, id: u16, value: &[u8]) -> Vec<u8> {
+pub fn assignment(name: &[u8], type_code: u8, id: u16, value: &[u8]) -> Vec<u8> {
     let fields = [&[type_code][..], &id.to_be_bytes(), &[0, 1], value].concat();
     [&[0x10][..], &prefixed(name), &fields].concat()
 }
 
-fn update(id: u16, number: u16, value: &[u8]) -> Vec<u8> {
+pub fn update(id: u16, number: u16, value: &[u8]) -> Vec<u8> {
     [&[0x11][..], &id.to_be_bytes(), &number.to_be_bytes(), value].concat()
 }
 

@@ -18,8 +18,9 @@ use std::io::{self, Write};
 /// Where a server listens, and a client looks for it, if nothing else is said.
 pub const DEFAULT_ADDRESS: &str = "127.0.0.1:1735";
 
-/// Bytes read from a stream at once: the longest messages have room, and a client's turn is short.
-const READ_SIZE: usize = 1024;
+/// Bytes read from a stream at once: the longest messages have room, and as many typical ones as a
+/// delivery takes; a client's turn is short.
+const READ_SIZE: usize = 4096;
 
 /// The program's arguments, or the first that is no text.
 pub fn arguments() -> Result<Vec<String>, String> {
