@@ -168,7 +168,14 @@ impl Measured {
                 ratio(*delivered)
             );
         }
-        println!("goals, typical values: {MOST_DELIVERY:.2} and {MOST_RATIO:.2}");
+        for typical in self.deliveries.iter().filter(|delivery| delivery.values == TYPICAL) {
+            let verdict = |ratio, goal| if is_beyond(ratio, goal) { "missed" } else { "reached" };
+            let by_single_calls = verdict(typical.by_single_calls(), MOST_DELIVERY);
+            let by_reference = verdict(ratio(typical.delivered), MOST_RATIO);
+            println!("\ngoals of a delivery, typical values:");
+            println!("  at most {MOST_DELIVERY:.2} of single calls: {by_single_calls}");
+            println!("  at most {MOST_RATIO:.2} of the reference's delivery: {by_reference}");
+        }
     }
 
     fn print_hellos(&self) {

@@ -77,7 +77,8 @@ impl Delivered {
     pub const MOST: u8 = 2;
 }
 
-/// What a delivery wrote: the recipients of each heading, and the bytes behind it.
+/// The recipients of each heading and the bytes behind it, in what a delivery wrote. Panics where a
+/// heading names more bytes than there are.
 pub fn headed(mut written: &[u8]) -> impl Iterator<Item = (u16, &[u8])> {
     iter::from_fn(move || {
         let (&[r, s, a, b, c, d], rest) = written.split_first_chunk::<HEADING>()?;
