@@ -75,7 +75,7 @@ pub struct Weights(pub [usize; CALLS]);
 
 impl Weights {
     /// All calls, for the differential test.
-    pub const ALL: Weights = Weights([2, 50, 20, 400, 40, 80, 120, 30, 60, 80, 2, 110, 16]);
+    pub const ALL: Weights = Weights([2, 50, 20, 390, 40, 80, 120, 30, 60, 80, 2, 110, 16]);
     /// The calls of a run in demand 3, which begins with the only fresh start.
     pub const RUN: Weights = Weights([0, 20, 2, 500, 60, 40, 350, 28, 0, 0, 0, 0, 0]);
 }

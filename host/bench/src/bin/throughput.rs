@@ -176,7 +176,7 @@ fn measure(program: &Path, load: Load) -> Result<f64, String> {
     let server = Server::start(program)?;
     let answer = server.fill()?;
     let bursts: Vec<_> = (0..load.writers).map(|writer| bursts(load, writer)).collect();
-    let sizes: Vec<usize> = bursts.iter().map(|bursts| bursts.concat().len()).collect();
+    let sizes: Vec<usize> = bursts.iter().map(|bursts| bursts.iter().map(Vec::len).sum()).collect();
     let clients: Vec<(TcpStream, Progress)> = (0..load.writers + load.readers)
         .map(|client| {
             let own = sizes.get(client).unwrap_or(&0);
@@ -216,8 +216,9 @@ fn run() -> Result<(), String> {
     }
     let beside = env::current_exe().map_err(|error| error.to_string())?;
     let beside = beside.with_file_name("nt2-server");
-    let mut servers = vec![("now", arguments.text("server").map_or(beside, PathBuf::from), 0.0)];
-    servers.extend(arguments.text("before").map(|before| ("before", before.into(), 0.0)));
+    let before = arguments.text("before").map(|before| ("before", PathBuf::from(before), 0.0));
+    let now = ("now", arguments.text("server").map_or(beside, PathBuf::from), 0.0);
+    let mut servers: Vec<_> = before.into_iter().chain([now]).collect();
     for _ in 0..arguments.number("rounds", 5)? {
         for (_, program, best) in &mut servers {
             *best = measure(program, load)?.max(*best);
