@@ -138,21 +138,26 @@ fn updates(values: usize, entries: usize) -> Vec<u8> {
     (0..DELIVERY_MESSAGES).flat_map(update).collect()
 }
 
+/// Heads and bytes of a table with so many entries.
+fn filled(values: usize, entries: usize) -> (Vec<Head>, Vec<u8>) {
+    let (mut heads, mut bytes) = (vec![Head::default(); ENTRIES], vec![0; TABLE_BYTES]);
+    for (i, head) in heads.iter_mut().enumerate().take(entries) {
+        let (name, type_code, value) = entry(values, i, 0);
+        *head = Head {
+            name_length: name.len() as u16,
+            value_length: value.len() as u16,
+            type_code: u16::from(type_code),
+            number: FIRST_NUMBER,
+        };
+        bytes[ENTRY_ROOM * i..][..name.len()].copy_from_slice(&name);
+        bytes[ENTRY_ROOM * i + NAME_ROOM..][..value.len()].copy_from_slice(&value);
+    }
+    (heads, bytes)
+}
+
 impl Subject {
     pub fn new(values: usize, entries: usize) -> Self {
-        let mut heads = vec![Head::default(); ENTRIES];
-        let mut bytes = vec![0; TABLE_BYTES];
-        for (i, head) in heads.iter_mut().enumerate().take(entries) {
-            let (name, type_code, value) = entry(values, i, 0);
-            *head = Head {
-                name_length: name.len() as u16,
-                value_length: value.len() as u16,
-                type_code: u16::from(type_code),
-                number: FIRST_NUMBER,
-            };
-            bytes[ENTRY_ROOM * i..][..name.len()].copy_from_slice(&name);
-            bytes[ENTRY_ROOM * i + NAME_ROOM..][..value.len()].copy_from_slice(&value);
-        }
+        let (heads, bytes) = filled(values, entries);
         let last = entries - 1;
         let (name, type_code, value) = entry(values, last, 0);
         let (_, _, other) = entry(values, last, 1);
