@@ -5,7 +5,7 @@ use crate::memory::Memory;
 use nt2_sys::{Answer, DELIVERY_MESSAGES, Delivered, HEADING};
 
 /// What a delivery can be like: so many sorts.
-pub const SORTS: usize = 12;
+pub const SORTS: usize = 13;
 
 /// A message of a delivery, as a single call takes it.
 #[derive(Clone, Debug)]
@@ -72,6 +72,7 @@ impl<'a> SingleCalls<'a> {
         let (without_room, most) = (number == 12, messages == DELIVERY_MESSAGES);
         let ignored_without_room = |t: &Taken<'_>| t.answer.number == 16 && t.left == 0;
         let hello = |t: &Taken<'_>| t.message == [0x01, 0x02, 0x00];
+        let long_answer = |t: &Taken<'_>| t.answer.sent >= 1 << 14;
         let other_hello = |t: &Taken<'_>| t.message[0] == 0x01 && !hello(t);
         [
             ("without input", spent && messages == 0),
@@ -85,6 +86,7 @@ impl<'a> SingleCalls<'a> {
             ("no room behind done", without_room && written > 0),
             ("ignored without room", self.taken.iter().any(ignored_without_room)),
             ("hello before others", self.taken.iter().rev().skip(1).any(hello)),
+            ("long hello answer", self.taken.iter().any(long_answer)),
             ("refused when closed", number == 3 && self.taken.last().is_some_and(other_hello)),
         ]
     }

@@ -131,21 +131,30 @@ impl Generator {
         let marks: Vec<u8> =
             (0..CONNECTIONS).map(|_| mark(random)).chain([3, 77, 200, 255]).collect();
         let mut memory = Memory::new(&heads, &bytes, entries as u16, &marks);
+        let largest = self.random.percent(25);
         for i in 0..entries {
-            let name = loop {
-                let name = self.name();
-                if (0..i).all(|j| memory.name(j) != name) {
-                    break name;
+            let (name, type_code, value) = loop {
+                let entry = if largest { self.largest_entry() } else { self.entry() };
+                if (0..i).all(|j| memory.name(j) != entry.0) {
+                    break entry;
                 }
             };
-            let type_code = self.random.pick(&TYPES);
-            let (number, value) = (self.sequence_number(), self.value(type_code));
-            memory.put_entry(i, &name, u16::from(type_code), number, &value);
+            memory.put_entry(i, &name, u16::from(type_code), self.sequence_number(), &value);
         }
         memory.heads.lend_only(ENTRIES + beyond);
         memory.bytes.lend_only(TABLE_BYTES + 25 * beyond);
         memory.marks.lend_only(CONNECTIONS + beyond / 2);
         memory
+    }
+
+    /// Name, type and value of an entry.
+    fn entry(&mut self) -> (Vec<u8>, u8, Vec<u8>) {
+        let (name, type_code) = (self.name(), self.random.pick(&TYPES));
+        (name, type_code, self.value(type_code))
+    }
+
+    fn largest_entry(&mut self) -> (Vec<u8>, u8, Vec<u8>) {
+        (self.text(NAME_ROOM), 0x02, prefixed(&self.text(VALUE_ROOM - 2)))
     }
 
     /// A call for the state of a server's table and a copy, both sound, and its output's length.
