@@ -162,7 +162,7 @@ fn bursts(load: Load, writer: usize) -> Vec<Vec<u8>> {
     let own: Vec<usize> = (writer..ENTRIES).step_by(load.writers).collect();
     let message = |place: usize| {
         let (i, turn) = (own[place % own.len()], place / own.len());
-        update(i as u16, 2 + turn as u16, &entry(TYPICAL, i, turn % 2).2)
+        update(i as u16, (2 + turn) as u16, &entry(TYPICAL, i, turn % 2).2)
     };
     let burst = |place: usize| {
         let first = place * load.burst;
@@ -208,7 +208,7 @@ fn run() -> Result<(), String> {
         writers: arguments.number("writers", 2)?,
         readers: arguments.number("readers", 2)?,
         burst: arguments.number("burst", 64)?,
-        bursts: arguments.number("bursts", 1000)?,
+        bursts: arguments.number("bursts", 4000)?,
     };
     let Load { writers, readers, burst, .. } = load;
     if writers == 0 || writers + readers < 2 || writers + readers > CONNECTIONS {
