@@ -17,7 +17,7 @@ fn main() {
     let archive = folder.join("libnt2.a");
     let Ok(archive) = archive.canonicalize() else {
         println!(
-            "cargo::error={} is missing: run `rt staticlib nt2`, or set NT2_LIB_DIR",
+            "cargo::error={} is missing: run `host/library`, or set NT2_LIB_DIR",
             archive.display()
         );
         return;

@@ -64,7 +64,7 @@ pub fn load(heads: &[Head], flat: &mut [u16])
     }
 }
 
-// The numbers become the heads of a table again, once a call is done.
+// The numbers become the heads of a table again, where the number is 0.
 pub fn store(number: u8, flat: &[u16], heads: &mut [Head])
     requires { ⌜ (maxEntries ≤ length (now heads)) × (headNumbers ≤ length (now flat)) ⌝ }
     ensures { λ _. ⌜ now (heads .exit) ≡ stored (changed number) (now (flat .entry)) (now (heads .entry)) ⌝ }
