@@ -95,7 +95,9 @@ record Computed : Type 0 where
       record { result = record { number = 7; taken = 0; sent = 0; recipients = 0; memory = server; output = [] }; place = 4 }
   -- "demand 3 counts each message judged": the refused one too, and none behind it
   refused-calls : callsOf 2 server 0 second (replicate 30 7) ≡ (messageCall 0 second (replicate 24 7) ∷ messageCall 0 (badType ++ (0 ∷ [])) (replicate 12 7) ∷ [])
-  -- a message that is not whole
+  refused-marks : deliver 2 server 0 second (replicate 30 7) .memory .marks ≡ server .marks
+  -- an unknown kind, and a message that is not whole
+  unknown-kind : report server 0 (0 ∷ 7 ∷ 0 ∷ []) (replicate 30 7) ≡ (4 ∷ 0 ∷ 1 ∷ 1 ∷ 0 ∷ 0 ∷ [])
   cut : report server 0 (0 ∷ take 5 update) (replicate 30 7) ≡ (1 ∷ 0 ∷ 1 ∷ 1 ∷ 0 ∷ 0 ∷ [])
   -- "12 when heading and bytes together don't fit"
   just-fits : report server 0 update (replicate 12 7) ≡ (0 ∷ 1 ∷ 1 ∷ 6 ∷ 12 ∷ 0 ∷ [])
@@ -129,6 +131,8 @@ computed =
       refused-entries = refl;
       refused-alone = refl;
       refused-calls = refl;
+      refused-marks = refl;
+      unknown-kind = refl;
       cut = refl;
       just-fits = refl;
       one-byte-short = refl;

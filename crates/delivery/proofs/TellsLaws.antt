@@ -50,7 +50,7 @@ none limit c most number ended mem input out n e =
 
 ended-more : (most taken written : ℕ) (front input : List ℕ) (d : DeliveryResult) → taken ≤ length input → EndedBy most (drop taken input) d
     → EndedBy (suc most) input (ahead 1 taken written front d)
-ended-more most taken written front input d l (refusal n e) = refusal n e
+ended-more most taken written front input d l (refusal n m e) = refusal n (omega (arith, m)) e
 ended-more most taken written front input d l (spent n t e) = spent n (omega (arith, t, length-drop taken input)) e
 ended-more most taken written front input d l (too-many n m t e) = too-many n (omega (arith, m)) (omega (arith, t, length-drop taken input)) e
 
@@ -73,7 +73,7 @@ module _ (limit c most : ℕ) (mem : ServerMemory) (input out : List ℕ) (some 
         taken = sym (ap (λ (k : ℕ). k + 0) (answered .refusal-takes-nothing n));
         number = facts .same-number ∙ sym (pick-false _ _ over);
         place = sym (pick-false _ _ over);
-        ended = refusal (rw (facts .same-number) n) refl;
+        ended = refusal (rw (facts .same-number) n) (omega arith) refl;
       }
 
   tells-taken : goesOn (r .number) ≡ true → (d : DeliveryResult) (calls : List LentCall) → Tells most limit (r .memory) c (drop (r .taken) input) (drop (r .sent) (r .output)) d calls

@@ -11,7 +11,8 @@ use Rattle.soundness.specs.Sound.{soundTable, soundMarks, connections, closed}
 use Rattle.protocol.specs.Step.{ServerMemory, LentCall, callStep}
 use Rattle.protocol.specs.Place.{callPlace}
 use Rattle.protocol.specs.Kept.{SoundMemory}
-use Rattle.delivery.specs.Delivery.{DeliveryResult, maxMessages, atRefusal, inputSpent, maxReached, judgedCall, goesOn, refusedHere, deliver, callsOf}
+use Rattle.protocol.specs.Taken.{messageCall}
+use Rattle.delivery.specs.Delivery.{DeliveryResult, maxMessages, atRefusal, inputSpent, maxReached, headingSize, goesOn, deliver, callsOf}
 use Rattle.delivery.specs.Sent.{sentByCall, headed}
 
 -- ---- of a list of calls
@@ -37,19 +38,19 @@ placeIn limit mem (k ∷ ks) = pick (goesOn (callStep limit mem k .number)) (pla
 -- heading, and none follows a refusal
 pub data Judged (limit c : ℕ) : ServerMemory → (input out : List ℕ) → List LentCall → Type 0 where
   no-more : {mem : ServerMemory} {input out : List ℕ} → Judged limit c mem input out []
-  refused : {mem : ServerMemory} {input out : List ℕ} → 0 < length input → RefusalNumber (callStep limit mem (judgedCall c input out) .number)
-      → Judged limit c mem input out (judgedCall c input out ∷ [])
+  refused : {mem : ServerMemory} {input out : List ℕ} → 0 < length input → RefusalNumber (callStep limit mem (messageCall c input (drop headingSize out)) .number)
+      → Judged limit c mem input out (messageCall c input (drop headingSize out) ∷ [])
   taken : {mem : ServerMemory} {input out : List ℕ} {ks : List LentCall} → 0 < length input
-      → (callStep limit mem (judgedCall c input out) .number ≡ done) ⊎ (callStep limit mem (judgedCall c input out) .number ≡ ignored)
-      → Judged limit c (callStep limit mem (judgedCall c input out) .memory) (drop (callStep limit mem (judgedCall c input out) .taken) input)
-      (drop (length (headed (sentByCall (callStep limit mem (judgedCall c input out))))) out) ks
-      → Judged limit c mem input out (judgedCall c input out ∷ ks)
+      → (callStep limit mem (messageCall c input (drop headingSize out)) .number ≡ done) ⊎ (callStep limit mem (messageCall c input (drop headingSize out)) .number ≡ ignored)
+      → Judged limit c (callStep limit mem (messageCall c input (drop headingSize out)) .memory) (drop (callStep limit mem (messageCall c input (drop headingSize out)) .taken) input)
+      (drop (length (headed (sentByCall (callStep limit mem (messageCall c input (drop headingSize out)))))) out) ks
+      → Judged limit c mem input out (messageCall c input (drop headingSize out) ∷ ks)
 
 -- ---- of a delivery
 
 -- "why it ended": "An input spent is named before the 64."
 pub data EndedBy (most : ℕ) (input : List ℕ) (d : DeliveryResult) : Type 0 where
-  refusal : RefusalNumber (d .number) → d .ended ≡ atRefusal → EndedBy most input d
+  refusal : RefusalNumber (d .number) → d .messages < most → d .ended ≡ atRefusal → EndedBy most input d
   spent : d .number ≡ done → d .taken ≡ length input → d .ended ≡ inputSpent → EndedBy most input d
   too-many : d .number ≡ done → d .messages ≡ most → d .taken < length input → d .ended ≡ maxReached → EndedBy most input d
 
@@ -70,7 +71,8 @@ DeliveryTells =
 
 -- a delivery that is refused at first: no message is judged, and nothing changes
 pub record RefusedAtFirst (limit : ℕ) (mem : ServerMemory) (c : ℕ) (input out : List ℕ) (number : ℕ) : Type 0 where
-  pub answered : deliver limit mem c input out ≡ refusedHere number 0 mem out
+  pub answered : deliver limit mem c input out
+      ≡ record { number = number; ended = atRefusal; messages = 0; taken = 0; written = 0; place = 0; memory = mem; output = out }
   pub no-calls : callsOf limit mem c input out ≡ []
 
 -- "Refusals: 14, 2 and 3 for a closed connection come first, on an empty input too"
