@@ -8,23 +8,24 @@ use native.Mathlib.Omega.{arith}
 use lib.ListN.{length, take, drop, length-append, length-drop, take-append-drop, drop-of-length-le}
 use lib.Seq.{length-take-le, take-append-add, drop-append-add, drop-drop}
 use borrow.Author.Tests.{le-leb, lt-leb}
+use Rattle.field.specs.Answer.{done}
 use Rattle.field.proofs.ChoiceLaws.{pick-true, pick-false}
 use Rattle.protocol.specs.Judge.{clientMessage}
 use Rattle.protocol.specs.Step.{ServerMemory, CallResult, callStep}
 use Rattle.protocol.specs.Place.{callPlace}
 use Rattle.protocol.specs.Kept.{SoundMemory}
-use Rattle.delivery.specs.Delivery.{DeliveryResult, judgedCall, messageStep, goesOn, endsHere, refusedHere, ahead, deliverAtMost}
+use Rattle.delivery.specs.Delivery.{DeliveryResult, maxMessages, atRefusal, inputSpent, maxReached, judgedCall, messageStep, goesOn, endsHere, refusedHere, ahead, deliverAtMost}
 use Rattle.delivery.proofs.MessageLaws.{StepFacts, step-facts, step-sound}
 
 -- ---- the first message
 
-spent : (most limit : ℕ) (mem : ServerMemory) (c : ℕ) (input out : List ℕ) → length input ≡ 0 → deliverAtMost most limit mem c input out ≡ endsHere 0 1 0 mem out
+spent : (most limit : ℕ) (mem : ServerMemory) (c : ℕ) (input out : List ℕ) → length input ≡ 0 → deliverAtMost most limit mem c input out ≡ endsHere done inputSpent 0 mem out
 unfolding deliverAtMost
 spent zero limit mem c input out h = pick-false _ _ (lt-leb 1 (length input) (omega arith))
 spent (suc most) limit mem c input out h = pick-false _ _ (lt-leb 1 (length input) (omega arith))
 
 module _ (limit : ℕ) (mem : ServerMemory) (c : ℕ) (input out : List ℕ) (some : 0 < length input) where
-  too-many : deliverAtMost 0 limit mem c input out ≡ endsHere 0 2 0 mem out
+  too-many : deliverAtMost 0 limit mem c input out ≡ endsHere done maxReached 0 mem out
   unfolding deliverAtMost
   too-many = pick-true _ _ (le-leb 1 (length input) (omega arith))
 
@@ -72,23 +73,23 @@ pub record Reached (limit c : ℕ) (input : List ℕ) (mem₀ : ServerMemory) (o
   pub sound : SoundMemory limit mem
   pub takes : taken ≤ length input
   pub writes : written ≤ length out
-  pub few : messages ≤ 64
-  pub whole : deliverAtMost 64 limit mem₀ c input out₀
-      ≡ ahead messages taken written (take written out) (deliverAtMost (64 - messages) limit mem c (drop taken input) (drop written out))
+  pub few : messages ≤ maxMessages
+  pub whole : deliverAtMost maxMessages limit mem₀ c input out₀
+      ≡ ahead messages taken written (take written out) (deliverAtMost (maxMessages - messages) limit mem c (drop taken input) (drop written out))
 
 pub reached-start : (limit c : ℕ) (input : List ℕ) (mem : ServerMemory) (out : List ℕ) → SoundMemory limit mem → Reached limit c input mem out mem out 0 0 0
 reached-start limit c input mem out s =
-    record { sound = s; takes = omega arith; writes = omega arith; few = omega arith; whole = sym (ahead-none (deliverAtMost 64 limit mem c input out)) }
+    record { sound = s; takes = omega arith; writes = omega arith; few = omega arith; whole = sym (ahead-none (deliverAtMost maxMessages limit mem c input out)) }
 
 module _ {limit c : ℕ} {input : List ℕ} {mem₀ : ServerMemory} {out₀ : List ℕ} {mem : ServerMemory} {out : List ℕ} {messages taken written : ℕ}
     (l : Reached limit c input mem₀ out₀ mem out messages taken written) where
-  pub reached-spent : length input ≤ taken → endsWith 0 1 0 messages taken written mem out ≡ deliverAtMost 64 limit mem₀ c input out₀
+  pub reached-spent : length input ≤ taken → endsWith done inputSpent 0 messages taken written mem out ≡ deliverAtMost maxMessages limit mem₀ c input out₀
   reached-spent h =
       let e : length (drop taken input) ≡ 0 = simp length-drop (omega arith) in
       rw (
         l .whole,
-        spent (64 - messages) limit mem c (drop taken input) (drop written out) e,
-        ahead-ends 0 1 0 messages taken written mem (take written out) (drop written out),
+        spent (maxMessages - messages) limit mem c (drop taken input) (drop written out) e,
+        ahead-ends done inputSpent 0 messages taken written mem (take written out) (drop written out),
         take-append-drop written out,
       )
 
@@ -96,19 +97,19 @@ module _ {limit c : ℕ} {input : List ℕ} {mem₀ : ServerMemory} {out₀ : Li
     some : 0 < length (drop taken input)
     some = simp length-drop (omega arith)
 
-    pub reached-most : messages ≡ 64 → endsWith 0 2 0 messages taken written mem out ≡ deliverAtMost 64 limit mem₀ c input out₀
+    pub reached-most : messages ≡ maxMessages → endsWith done maxReached 0 messages taken written mem out ≡ deliverAtMost maxMessages limit mem₀ c input out₀
     reached-most e =
-        let z : 64 - messages ≡ 0 = omega arith in
+        let z : maxMessages - messages ≡ 0 = omega arith in
         rw (
           l .whole,
           z,
           too-many limit mem c (drop taken input) (drop written out) some,
-          ahead-ends 0 2 0 messages taken written mem (take written out) (drop written out),
+          ahead-ends done maxReached 0 messages taken written mem (take written out) (drop written out),
           take-append-drop written out,
         )
 
-    module _ (left : messages < 64) (r : CallResult) (step : r ≡ messageStep limit mem c (drop taken input) (drop written out)) where
-      suc-left : 64 - messages ≡ suc (64 - (messages + 1))
+    module _ (left : messages < maxMessages) (r : CallResult) (step : r ≡ messageStep limit mem c (drop taken input) (drop written out)) where
+      suc-left : maxMessages - messages ≡ suc (maxMessages - (messages + 1))
       suc-left = omega arith
 
       facts : StepFacts mem (drop taken input) (drop written out) (callStep limit mem (judgedCall c (drop taken input) (drop written out))) r
@@ -120,8 +121,8 @@ module _ {limit c : ℕ} {input : List ℕ} {mem₀ : ServerMemory} {out₀ : Li
           (omega (arith, length-append (take written out) (r .output), facts .output-length, length-drop written out, length-take-le written out (l .writes), l .writes))
 
       pub reached-refused : goesOn (r .number) ≡ false → (place : ℕ) → place ≡ callPlace limit mem (clientMessage c (drop taken input))
-          → endsWith (r .number) 0 place messages taken written (r .memory) (take written out ++ (r .output ++ drop (length out - written) (drop written out)))
-          ≡ deliverAtMost 64 limit mem₀ c input out₀
+          → endsWith (r .number) atRefusal place messages taken written (r .memory) (take written out ++ (r .output ++ drop (length out - written) (drop written out)))
+          ≡ deliverAtMost maxMessages limit mem₀ c input out₀
       reached-refused a place e =
           rw (
             rest-back out (r .output) written,
@@ -130,8 +131,8 @@ module _ {limit c : ℕ} {input : List ℕ} {mem₀ : ServerMemory} {out₀ : Li
             e,
             l .whole,
             suc-left,
-            one-refused limit mem c (drop taken input) (drop written out) some (64 - (messages + 1)) r step a,
-            ahead-ends (r .number) 0 (callPlace limit mem (clientMessage c (drop taken input))) messages taken written mem (take written out) (drop written out),
+            one-refused limit mem c (drop taken input) (drop written out) some (maxMessages - (messages + 1)) r step a,
+            ahead-ends (r .number) atRefusal (callPlace limit mem (clientMessage c (drop taken input))) messages taken written mem (take written out) (drop written out),
           )
 
       on : goesOn (r .number) ≡ true → Reached limit c input mem₀ out₀ (r .memory) (take written out ++ r .output) (messages + 1) (taken + r .taken) (written + r .sent)
@@ -150,9 +151,9 @@ module _ {limit c : ℕ} {input : List ℕ} {mem₀ : ServerMemory} {out₀ : Li
                 l .whole
                 ∙ rw (
                   suc-left,
-                  one-more limit mem c (drop taken input) (drop written out) some (64 - (messages + 1)) r step a,
+                  one-more limit mem c (drop taken input) (drop written out) some (maxMessages - (messages + 1)) r step a,
                   ahead-ahead messages taken written 1 (r .taken) (r .sent) (take written out) (take (r .sent) (r .output))
-                      (deliverAtMost (64 - (messages + 1)) limit (r .memory) c (drop (r .taken) (drop taken input)) (drop (r .sent) (r .output))),
+                      (deliverAtMost (maxMessages - (messages + 1)) limit (r .memory) c (drop (r .taken) (drop taken input)) (drop (r .sent) (r .output))),
                   t,
                   d,
                   drop-drop (r .taken) taken input,

@@ -8,6 +8,7 @@ use lib.Dec.{eqb}
 use lib.ListN.{length, take, drop, length-append, length-drop}
 use lib.Seq.{length-take-le, take-append-add, drop-append-add, drop-drop}
 use borrow.Author.Tests.{eqb-true, eqb-false}
+use Rattle.field.specs.Answer.{done, ignored}
 use Rattle.field.specs.Octets.{encode16}
 use Rattle.field.proofs.ChoiceLaws.{by-test, pick-true, pick-false}
 use Rattle.protocol.specs.Step.{ServerMemory, CallResult, callStep}
@@ -16,10 +17,10 @@ use Rattle.protocol.specs.Kept.{SoundMemory}
 use Rattle.protocol.proofs.AnswerLaws.{call-answered}
 use Rattle.protocol.proofs.ProgressLaws.{call-progress}
 use Rattle.protocol.proofs.SoundnessLaws.{sound-kept}
-use Rattle.delivery.specs.Delivery.{headingBytes, judgedCall, withHeading, messageStep, goesOn}
+use Rattle.delivery.specs.Delivery.{headingSize, headingBytes, judgedCall, withHeading, messageStep, goesOn}
 use Rattle.delivery.specs.Sent.{sentByCall, headed}
 
-pub length-heading : (recipients n : ℕ) → length (headingBytes recipients n) ≡ 6
+pub length-heading : (recipients n : ℕ) → length (headingBytes recipients n) ≡ headingSize
 unfolding headingBytes encode16
 length-heading recipients n = refl
 
@@ -29,11 +30,11 @@ module _ (limit : ℕ) (mem : ServerMemory) (c : ℕ) (input out : List ℕ) whe
   abbrev one : CallResult
   one = callStep limit mem (judgedCall c input out)
 
-  pub step-done : eqb (one .number) 0 ≡ true
+  pub step-done : eqb (one .number) done ≡ true
       → messageStep limit mem c input out ≡ record {
         number = one .number;
         taken = one .taken;
-        sent = 6 + one .sent;
+        sent = headingSize + one .sent;
         recipients = one .recipients;
         memory = one .memory;
         output = headingBytes (one .recipients) (one .sent) ++ one .output;
@@ -41,7 +42,7 @@ module _ (limit : ℕ) (mem : ServerMemory) (c : ℕ) (input out : List ℕ) whe
   unfolding messageStep withHeading
   step-done e = pick-true _ _ e
 
-  pub step-other : eqb (one .number) 0 ≡ false
+  pub step-other : eqb (one .number) done ≡ false
       → messageStep limit mem c input out
       ≡ record { number = one .number; taken = one .taken; sent = 0; recipients = one .recipients; memory = one .memory; output = out }
   unfolding messageStep withHeading
@@ -64,15 +65,15 @@ pub record StepFacts (mem : ServerMemory) (message out : List ℕ) (k r : CallRe
   pub unchanged : goesOn (r .number) ≡ false → (r .memory ≡ mem) × (r .output ≡ out)
 
 -- a number that is neither done nor ignored is not done
-pub not-done : (number : ℕ) → (eqb number 0 || eqb number 16) ≡ false → eqb number 0 ≡ false
-not-done number h = go (eqb number 0) h
+pub not-done : (number : ℕ) → (eqb number done || eqb number ignored) ≡ false → eqb number done ≡ false
+not-done number h = go (eqb number done) h
   where
-    go : (b : Bool) → (b || eqb number 16) ≡ false → b ≡ false
+    go : (b : Bool) → (b || eqb number ignored) ≡ false → b ≡ false
     go true q = absurd (true≢false q)
     go false q = refl
 
 -- what a call sends, behind its heading: one thing where it is done, and nothing else
-headed-done : (k : CallResult) → eqb (k .number) 0 ≡ true → k .sent ≤ length (k .output)
+headed-done : (k : CallResult) → eqb (k .number) done ≡ true → k .sent ≤ length (k .output)
     → headed (sentByCall k) ≡ headingBytes (k .recipients) (k .sent) ++ take (k .sent) (k .output)
 unfolding headed
 headed-done k e l =
@@ -80,21 +81,21 @@ headed-done k e l =
     ap headed (pick-true (record { recipients = k .recipients; bytes = take (k .sent) (k .output) } ∷ []) [] e)
     ∙ rw (append-nil (take (k .sent) (k .output)), size)
 
-headed-other : (k : CallResult) → eqb (k .number) 0 ≡ false → headed (sentByCall k) ≡ []
+headed-other : (k : CallResult) → eqb (k .number) done ≡ false → headed (sentByCall k) ≡ []
 unfolding headed
 headed-other k e = ap headed (pick-false (record { recipients = k .recipients; bytes = take (k .sent) (k .output) } ∷ []) [] e)
 
-heading-facts : (limit : ℕ) (mem : ServerMemory) (message out : List ℕ) (k : CallResult) → MessageProgress limit message (drop 6 out) k → RightlyAnswered mem (drop 6 out) k
+heading-facts : (limit : ℕ) (mem : ServerMemory) (message out : List ℕ) (k : CallResult) → MessageProgress limit message (drop headingSize out) k → RightlyAnswered mem (drop headingSize out) k
     → StepFacts mem message out k (withHeading out k)
 unfolding withHeading
 heading-facts limit mem message out k p q =
-    by-test (StepFacts mem message out k) (eqb (k .number) 0) _ _
-    (λ done.
+    by-test (StepFacts mem message out k) (eqb (k .number) done) _ _
+    (λ is-done.
     let heading = headingBytes (k .recipients) (k .sent) in
-    let six : length heading ≡ 6 = length-heading (k .recipients) (k .sent) in
-    let some : 1 ≤ k .sent = p .sends-some (eqb-true _ _ done) in
+    let six : length heading ≡ headingSize = length-heading (k .recipients) (k .sent) in
+    let some : 1 ≤ k .sent = p .sends-some (eqb-true _ _ is-done) in
     let fits : k .sent ≤ length (k .output) = omega (arith, p .sends-room, p .output-length) in
-    let written : headed (sentByCall k) ≡ heading ++ take (k .sent) (k .output) = headed-done k done fits in
+    let written : headed (sentByCall k) ≡ heading ++ take (k .sent) (k .output) = headed-done k is-done fits in
     record {
       same-number = refl;
       same-taken = refl;
@@ -102,14 +103,14 @@ heading-facts limit mem message out k p q =
       sent-is = rw written (omega (arith, length-append heading (take (k .sent) (k .output)), six, length-take-le (k .sent) (k .output) fits));
       front = ap (λ (n : ℕ). take (n + k .sent) (heading ++ k .output)) (sym six) ∙ take-append-add heading (k .output) (k .sent) ∙ sym written;
       takes-there = p .takes-there;
-      sends-room = omega (arith, p .sends-room, length-drop 6 out);
-      output-length = omega (arith, length-append heading (k .output), six, p .output-length, p .sends-room, length-drop 6 out);
+      sends-room = omega (arith, p .sends-room, length-drop headingSize out);
+      output-length = omega (arith, length-append heading (k .output), six, p .output-length, p .sends-room, length-drop headingSize out);
       output-rest =
           ap (λ (n : ℕ). drop (n + k .sent) (heading ++ k .output)) (sym six)
           ∙ drop-append-add heading (k .output) (k .sent)
           ∙ p .output-rest
-          ∙ drop-drop (k .sent) 6 out;
-      unchanged = λ other. absurd (eqb-false (k .number) 0 (not-done (k .number) other) (eqb-true _ _ done));
+          ∙ drop-drop (k .sent) headingSize out;
+      unchanged = λ other. absurd (eqb-false (k .number) done (not-done (k .number) other) (eqb-true _ _ is-done));
     })
     (λ other. record {
       same-number = refl;
@@ -128,7 +129,7 @@ pub step-facts : (limit : ℕ) (mem : ServerMemory) (c : ℕ) (input out : List 
     → StepFacts mem input out (callStep limit mem (judgedCall c input out)) (messageStep limit mem c input out)
 unfolding messageStep
 step-facts limit mem c input out =
-    heading-facts limit mem input out _ (call-progress limit mem c input (drop 6 out)) (call-answered limit mem (judgedCall c input out))
+    heading-facts limit mem input out _ (call-progress limit mem c input (drop headingSize out)) (call-answered limit mem (judgedCall c input out))
 
 pub step-sound : (limit : ℕ) (mem : ServerMemory) (c : ℕ) (input out : List ℕ) → SoundMemory limit mem → SoundMemory limit (messageStep limit mem c input out .memory)
 step-sound limit mem c input out s = rw (step-facts limit mem c input out .same-memory) (sound-kept limit mem s (judgedCall c input out))

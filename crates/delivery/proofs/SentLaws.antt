@@ -9,13 +9,14 @@ use lib.Dec.{eqb}
 use lib.ListN.{length, take, drop, length-append, length-drop}
 use lib.Seq.{length-take-le, take-append-add, drop-append-add, take-append-seam, drop-at, drop-drop}
 use borrow.Author.Tests.{le-leb}
+use Rattle.field.specs.Answer.{done}
 use Rattle.field.specs.Choice.{pick}
 use Rattle.field.specs.Octets.{encode16, decode16}
 use Rattle.field.proofs.ChoiceLaws.{by-test, pick-true, pick-false}
 use Rattle.recipients.specs.Recipients.{testBit}
 use Rattle.protocol.specs.Step.{ServerMemory, LentCall, CallResult, callStep}
 use Rattle.protocol.specs.Run.{memoryAfterRun, addressedByCall, addressedBytes}
-use Rattle.delivery.specs.Delivery.{DeliveryResult, headingBytes, judgedCall, messageStep, goesOn, endsHere, refusedHere, ahead, deliver, callsOf}
+use Rattle.delivery.specs.Delivery.{DeliveryResult, maxMessages, headingSize, headingBytes, atRefusal, inputSpent, maxReached, judgedCall, messageStep, goesOn, endsHere, refusedHere, ahead, deliver, callsOf}
 use Rattle.delivery.specs.Sent.{Sending, sentByCall, sentByCalls, addressedTo, SameAddressed, headed, behindHeadings, DeliveryIsCalls, Within, DeliveryWithin}
 use Rattle.delivery.proofs.MessageLaws.{length-heading, not-done, StepFacts, step-facts}
 use Rattle.delivery.proofs.InductionLaws.{by-messages, by-ready}
@@ -24,7 +25,7 @@ use Rattle.delivery.proofs.InductionLaws.{by-messages, by-ready}
 
 addressed-call : (c : ℕ) (r : CallResult) (xs : List Sending) → addressedTo c (sentByCall r ++ xs) ≡ addressedByCall c r ++ addressedTo c xs
 unfolding addressedTo addressedByCall pick
-addressed-call c r xs = go (eqb (r .number) 0)
+addressed-call c r xs = go (eqb (r .number) done)
   where
     go : (b : Bool) → addressedTo c (pick b (record { recipients = r .recipients; bytes = take (r .sent) (r .output) } ∷ []) [] ++ xs)
         ≡ pick (b && testBit (r .recipients) c) (take (r .sent) (r .output)) [] ++ addressedTo c xs
@@ -59,11 +60,11 @@ behind-first most recipients bytes rest =
     ∙ rw (named, stated)
     (ap₂ (λ (x y : List ℕ). record { recipients = recipients; bytes = x } ∷ behindHeadings most y) (take-append-seam bytes rest) (behind n refl))
   where
-    behind : (n : ℕ) → length bytes ≡ n → drop (6 + n) (headingBytes recipients (length bytes) ++ (bytes ++ rest)) ≡ rest
+    behind : (n : ℕ) → length bytes ≡ n → drop (headingSize + n) (headingBytes recipients (length bytes) ++ (bytes ++ rest)) ≡ rest
     behind n e =
         let heading = headingBytes recipients (length bytes) in
         rw (← append-assoc heading bytes rest)
-        (drop-at (heading ++ bytes) rest (6 + n) (omega (arith, length-append heading bytes, length-heading recipients (length bytes))))
+        (drop-at (heading ++ bytes) rest (headingSize + n) (omega (arith, length-append heading bytes, length-heading recipients (length bytes))))
 
 -- each thing behind its heading, read back
 behind-headed : (most : ℕ) (xs : List Sending) → length xs ≤ most → behindHeadings most (headed xs) ≡ xs
@@ -94,7 +95,7 @@ equal-none limit most number ended place mem input out = record { memory = refl;
 
 -- one call sends one thing at most
 sent-few : (r : CallResult) → length (sentByCall r) ≤ 1
-sent-few r = by-test (λ (xs : List Sending). length xs ≤ 1) (eqb (r .number) 0) _ _ (λ _. omega arith) (λ _. omega arith)
+sent-few r = by-test (λ (xs : List Sending). length xs ≤ 1) (eqb (r .number) done) _ _ (λ _. omega arith) (λ _. omega arith)
 
 module _ (limit c most : ℕ) (mem : ServerMemory) (input out : List ℕ) (r : CallResult) (step : r ≡ messageStep limit mem c input out) where
   abbrev one : CallResult
@@ -131,11 +132,11 @@ module _ (limit c most : ℕ) (mem : ServerMemory) (input out : List ℕ) (r : C
 
 pub delivery-is-calls : DeliveryIsCalls
 delivery-is-calls limit mem c input out =
-    let e : Equal limit 64 mem input out (deliver limit mem c input out) (callsOf limit mem c input out) =
-    by-ready limit mem c input out (Equal limit 64 mem input out) (λ number _. equal-none limit 64 number 0 0 mem input out)
-    (by-messages limit c (Equal limit) (λ most m i o _. equal-none limit most 0 1 0 m i o) (λ m i o _. equal-none limit 0 0 2 0 m i o)
-    (λ most m i o _ r step a. equal-refused limit c most m i o r step a _) (λ most m i o _ r step _. equal-taken limit c most m i o r step) 64 mem input out) in
-    record { memory = e .memory; written = e .written; sent = ap (behindHeadings 64) (e .written) ∙ behind-headed 64 (sentByCalls limit mem (callsOf limit mem c input out)) (e .few) }
+    let e : Equal limit maxMessages mem input out (deliver limit mem c input out) (callsOf limit mem c input out) =
+    by-ready limit mem c input out (Equal limit maxMessages mem input out) (λ number _. equal-none limit maxMessages number atRefusal 0 mem input out)
+    (by-messages limit c (Equal limit) (λ most m i o _. equal-none limit most done inputSpent 0 m i o) (λ m i o _. equal-none limit 0 done maxReached 0 m i o)
+    (λ most m i o _ r step a. equal-refused limit c most m i o r step a _) (λ most m i o _ r step _. equal-taken limit c most m i o r step) maxMessages mem input out) in
+    record { memory = e .memory; written = e .written; sent = ap (behindHeadings maxMessages) (e .written) ∙ behind-headed maxMessages (sentByCalls limit mem (callsOf limit mem c input out)) (e .few) }
 
 -- ---- within what was lent
 
@@ -163,6 +164,6 @@ within-taken limit c most mem input out r step d w =
 
 pub delivery-within : DeliveryWithin
 delivery-within limit mem c input out =
-    by-ready limit mem c input out (λ d _. Within 64 input out d) (λ number _. within-none 64 number 0 0 mem input out)
-    (by-messages limit c (λ most m i o d _. Within most i o d) (λ most m i o _. within-none most 0 1 0 m i o) (λ m i o _. within-none 0 0 2 0 m i o)
-    (λ most m i o _ r step a. within-none (suc most) (r .number) 0 _ m i o) (λ most m i o _ r step _ d _. within-taken limit c most m i o r step d) 64 mem input out)
+    by-ready limit mem c input out (λ d _. Within maxMessages input out d) (λ number _. within-none maxMessages number atRefusal 0 mem input out)
+    (by-messages limit c (λ most m i o d _. Within most i o d) (λ most m i o _. within-none most done inputSpent 0 m i o) (λ m i o _. within-none 0 done maxReached 0 m i o)
+    (λ most m i o _ r step a. within-none (suc most) (r .number) atRefusal _ m i o) (λ most m i o _ r step _ d _. within-taken limit c most m i o r step d) maxMessages mem input out)

@@ -8,14 +8,15 @@ use native.Mathlib.Omega.{arith}
 use lib.Dec.{eqb}
 use lib.ListN.{length, take, drop, getD, length-drop}
 use borrow.Author.Tests.{lt-ltb, le-ltb, eq-eqb, ne-eqb, eqb-true}
-use Rattle.field.specs.Answer.{RefusalNumber}
+use Rattle.field.specs.Answer.{done, ignored, RefusalNumber}
 use Rattle.field.specs.Choice.{pick}
 use Rattle.field.proofs.ChoiceLaws.{pick-true, pick-false}
+use Rattle.soundness.specs.Sound.{connections, closed}
 use Rattle.protocol.specs.Step.{ServerMemory, LentCall, CallResult, callStep}
 use Rattle.protocol.specs.Place.{callPlace}
 use Rattle.protocol.specs.Judge.{clientMessage}
 use Rattle.protocol.proofs.AnswerLaws.{call-answered}
-use Rattle.delivery.specs.Delivery.{DeliveryResult, judgedCall, messageStep, goesOn, endsHere, refusedHere, ahead, deliverAtMost, deliver, callsAtMost, callsOf}
+use Rattle.delivery.specs.Delivery.{DeliveryResult, maxMessages, inputSpent, maxReached, judgedCall, messageStep, goesOn, endsHere, refusedHere, ahead, deliverAtMost, deliver, callsAtMost, callsOf}
 use Rattle.delivery.specs.Sent.{sentByCall, headed}
 use Rattle.delivery.specs.Tells.{messagesIn, takenIn, numberIn, placeIn, Judged, EndedBy, refusal, spent, too-many, Tells, DeliveryTells, FirstRefused}
 use Rattle.delivery.proofs.MessageLaws.{StepFacts, step-facts}
@@ -24,25 +25,25 @@ use Rattle.delivery.proofs.InductionLaws.{by-messages}
 -- ---- numbers
 
 -- a number that does not go on is a refusal's, and one that does is 0 or 16
-refused-number : (number : ℕ) → (number ≡ 0) ⊎ ((number ≡ 16) ⊎ RefusalNumber number) → (eqb number 0 || eqb number 16) ≡ false → RefusalNumber number
-refused-number number (inl e) h = absurd (true≢false (sym (ap (λ (b : Bool). b || eqb number 16) (eq-eqb number 0 e)) ∙ h))
-refused-number number (inr (inl e)) h = absurd (at-sixteen (eqb number 0) (eqb number 16) (eq-eqb number 16 e) h)
+refused-number : (number : ℕ) → (number ≡ done) ⊎ ((number ≡ ignored) ⊎ RefusalNumber number) → (eqb number done || eqb number ignored) ≡ false → RefusalNumber number
+refused-number number (inl e) h = absurd (true≢false (sym (ap (λ (b : Bool). b || eqb number ignored) (eq-eqb number done e)) ∙ h))
+refused-number number (inr (inl e)) h = absurd (at-sixteen (eqb number done) (eqb number ignored) (eq-eqb number ignored e) h)
   where
     at-sixteen : (a b : Bool) → b ≡ true → (a || b) ≡ false → ⊥
     at-sixteen true b e q = true≢false q
     at-sixteen false b e q = true≢false (sym e ∙ q)
 refused-number number (inr (inr n)) h = n
 
-taken-number : (number : ℕ) → (eqb number 0 || eqb number 16) ≡ true → (number ≡ 0) ⊎ (number ≡ 16)
-taken-number number h = go (eqb number 0) refl h
+taken-number : (number : ℕ) → (eqb number done || eqb number ignored) ≡ true → (number ≡ done) ⊎ (number ≡ ignored)
+taken-number number h = go (eqb number done) refl h
   where
-    go : (b : Bool) → eqb number 0 ≡ b → (b || eqb number 16) ≡ true → (number ≡ 0) ⊎ (number ≡ 16)
-    go true e q = inl (eqb-true number 0 e)
-    go false e q = inr (eqb-true number 16 q)
+    go : (b : Bool) → eqb number done ≡ b → (b || eqb number ignored) ≡ true → (number ≡ done) ⊎ (number ≡ ignored)
+    go true e q = inl (eqb-true number done e)
+    go false e q = inr (eqb-true number ignored q)
 
 -- ---- a delivery's messages
 
-none : (limit c most number ended : ℕ) (mem : ServerMemory) (input out : List ℕ) → number ≡ 0 → EndedBy most input (endsHere number ended 0 mem out)
+none : (limit c most number ended : ℕ) (mem : ServerMemory) (input out : List ℕ) → number ≡ done → EndedBy most input (endsHere number ended 0 mem out)
     → Tells most limit mem c input out (endsHere number ended 0 mem out) []
 unfolding messagesIn takenIn numberIn placeIn
 none limit c most number ended mem input out n e =
@@ -96,15 +97,15 @@ messages-tell : (limit c most : ℕ) (mem : ServerMemory) (input out : List ℕ)
     → Tells most limit mem c input out (deliverAtMost most limit mem c input out) (callsAtMost most limit mem c input out)
 messages-tell limit c =
     by-messages limit c (λ most mem input out. Tells most limit mem c input out)
-    (λ most mem input out e. none limit c most 0 1 mem input out refl (spent refl (omega (arith, e)) refl))
-    (λ mem input out some. none limit c 0 0 2 mem input out refl (too-many refl refl (omega (arith, some)) refl))
+    (λ most mem input out e. none limit c most done inputSpent mem input out refl (spent refl (omega (arith, e)) refl))
+    (λ mem input out some. none limit c 0 done maxReached mem input out refl (too-many refl refl (omega (arith, some)) refl))
     (λ most mem input out some r step a. tells-refused limit c most mem input out some r step a)
     (λ most mem input out some r step a. tells-taken limit c most mem input out some r step a)
 
 pub delivery-tells : DeliveryTells
 unfolding deliver callsOf pick
 delivery-tells limit mem c input out s b not-closed =
-    rw (s .table, s .marks, lt-ltb c 16 b, ne-eqb (getD (mem .marks) c 0) 0 not-closed) (messages-tell limit c 64 mem input out)
+    rw (s .table, s .marks, lt-ltb c connections b, ne-eqb (getD (mem .marks) c 0) closed not-closed) (messages-tell limit c maxMessages mem input out)
 
 -- ---- the first refusals
 
@@ -112,9 +113,9 @@ pub first-refused : FirstRefused
 unfolding deliver callsOf pick
 first-refused limit mem c input out = record {
   unsound-memory = λ u. record { answered = rw u; no-calls = rw u };
-  too-high = λ s l. record { answered = rw (s .table, s .marks, le-ltb c 16 l); no-calls = rw (s .table, s .marks, le-ltb c 16 l) };
+  too-high = λ s l. record { answered = rw (s .table, s .marks, le-ltb c connections l); no-calls = rw (s .table, s .marks, le-ltb c connections l) };
   closed-connection = λ s b e. record {
-    answered = rw (s .table, s .marks, lt-ltb c 16 b, eq-eqb (getD (mem .marks) c 0) 0 e);
-    no-calls = rw (s .table, s .marks, lt-ltb c 16 b, eq-eqb (getD (mem .marks) c 0) 0 e);
+    answered = rw (s .table, s .marks, lt-ltb c connections b, eq-eqb (getD (mem .marks) c 0) closed e);
+    no-calls = rw (s .table, s .marks, lt-ltb c connections b, eq-eqb (getD (mem .marks) c 0) closed e);
   };
 }

@@ -8,6 +8,7 @@ use native.Mathlib.Omega.{arith}
 use lib.ListN.{length, take, drop, length-append, length-drop, take-append-drop, drop-of-length-le}
 use lib.Seq.{drop-at, length-take-le}
 use borrow.Author.Tests.{eq-eqb, ne-eqb}
+use Rattle.field.specs.Answer.{done}
 use Rattle.field.specs.Octets.{encode16, overwriteAt}
 use Rattle.field.specs.Place.{WithPlace}
 use Rattle.field.proofs.OctetsLaws.{rest-all, length-encode16}
@@ -19,7 +20,7 @@ use Rattle.protocol.specs.Answered.{MessageProgress, RightlyAnswered}
 use Rattle.protocol.specs.Taken.{messageCall}
 use Rattle.protocol.proofs.AnswerLaws.{call-answered}
 use Rattle.protocol.proofs.ProgressLaws.{call-progress}
-use Rattle.delivery.specs.Delivery.{headingBytes, judgedCall, messageWithPlace}
+use Rattle.delivery.specs.Delivery.{headingSize, headingBytes, judgedCall, messageWithPlace}
 use Rattle.delivery.proofs.MessageLaws.{length-heading, step-done, step-other}
 use Rattle.delivery.proofs.DeliveryLaws.{rest-back}
 
@@ -39,18 +40,18 @@ heading-stored out x y z recipients n f g h =
       append-assoc a b (encode16 (n % 65536)),
     )
 
-drop-from : (out : List ℕ) (from : ℕ) → from ≡ min 6 (length out) → drop from out ≡ drop 6 out
-drop-from out from e = elim (decLt (length out) 6) [
+drop-from : (out : List ℕ) (from : ℕ) → from ≡ min headingSize (length out) → drop from out ≡ drop headingSize out
+drop-from out from e = elim (decLt (length out) headingSize) [
   | yes l ↦ (
       let all : length out ≤ from = omega arith in
-      let six : length out ≤ 6 = omega arith in
+      let six : length out ≤ headingSize = omega arith in
       drop-of-length-le out all ∙ sym (drop-of-length-le out six))
   | no l ↦ (
-      let six : from ≡ 6 = omega (arith, l) in
+      let six : from ≡ headingSize = omega (arith, l) in
       ap (λ (k : ℕ). drop k out) six)
 ]
 
-module _ (limit : ℕ) (mem : ServerMemory) (c : ℕ) (input out : List ℕ) (from : ℕ) (start : from ≡ min 6 (length out)) (r : WithPlace CallResult)
+module _ (limit : ℕ) (mem : ServerMemory) (c : ℕ) (input out : List ℕ) (from : ℕ) (start : from ≡ min headingSize (length out)) (r : WithPlace CallResult)
     (call : r ≡ stepWithPlace limit mem (messageCall c input (take (length out - from) (drop from out)))) where
   -- the output, once the part that was lent is back
   abbrev back : List ℕ
@@ -59,10 +60,10 @@ module _ (limit : ℕ) (mem : ServerMemory) (c : ℕ) (input out : List ℕ) (fr
   step : r ≡ stepWithPlace limit mem (judgedCall c input out)
   step = rw (rest-all from out, drop-from out from start) at call
 
-  progress : MessageProgress limit input (drop 6 out) (r .result)
-  progress = rw step (call-progress limit mem c input (drop 6 out))
+  progress : MessageProgress limit input (drop headingSize out) (r .result)
+  progress = rw step (call-progress limit mem c input (drop headingSize out))
 
-  answered : RightlyAnswered mem (drop 6 out) (r .result)
+  answered : RightlyAnswered mem (drop headingSize out) (r .result)
   answered = rw step (call-answered limit mem (judgedCall c input out))
 
   result-is : r .result ≡ callStep limit mem (judgedCall c input out)
@@ -72,7 +73,7 @@ module _ (limit : ℕ) (mem : ServerMemory) (c : ℕ) (input out : List ℕ) (fr
   place-is = ap (λ (x : WithPlace CallResult). x .place) step
 
   -- ignored or refused: nothing is put
-  pub without-heading : r .result .number ≢ 0
+  pub without-heading : r .result .number ≢ done
       → record {
         result = record { number = r .result .number; taken = r .result .taken; sent = r .result .sent; recipients = r .result .recipients; memory = r .result .memory; output = back };
         place = r .place;
@@ -81,26 +82,26 @@ module _ (limit : ℕ) (mem : ServerMemory) (c : ℕ) (input out : List ℕ) (fr
       let u = answered .unchanged other in
       let whole : back ≡ out =
       rest-back out (r .result .output) from ∙ ap (λ (x : List ℕ). take from out ++ x) (u .1 ∙ sym (drop-from out from start)) ∙ take-append-drop from out in
-      rw (whole, u .2, result-is, place-is, step-other limit mem c input out (ne-eqb _ 0 (rw result-is at other)))
+      rw (whole, u .2, result-is, place-is, step-other limit mem c input out (ne-eqb _ done (rw result-is at other)))
 
-  module _ (done : r .result .number ≡ 0) where
-    room : 6 < length out
-    room = omega (arith, progress .sends-some done, progress .sends-room, length-drop 6 out)
+  module _ (is-done : r .result .number ≡ done) where
+    room : headingSize < length out
+    room = omega (arith, progress .sends-some is-done, progress .sends-room, length-drop headingSize out)
 
-    front : length (take from out) ≡ 6
+    front : length (take from out) ≡ headingSize
     front = length-take-le from out (omega (arith, start, room)) ∙ omega (arith, start, room)
 
-    pub heading-room : limit ≤ 65536 → (6 ≤ length back) × (r .result .sent < 2 ^ 32)
+    pub heading-room : limit ≤ 65536 → (headingSize ≤ length back) × (r .result .sent < 2 ^ 32)
     heading-room few = (omega (arith, front, length-append (take from out) (r .result .output ++ drop (length out - from) (drop from out))), omega (arith, progress .sends-most))
 
-    pub sent-fits : 6 + r .result .sent ≤ length out
-    sent-fits = omega (arith, progress .sends-room, length-drop 6 out, room)
+    pub sent-fits : headingSize + r .result .sent ≤ length out
+    sent-fits = omega (arith, progress .sends-room, length-drop headingSize out, room)
 
     pub with-heading : record {
       result = record {
         number = r .result .number;
         taken = r .result .taken;
-        sent = 6 + r .result .sent;
+        sent = headingSize + r .result .sent;
         recipients = r .result .recipients;
         memory = r .result .memory;
         output = overwriteAt back 0 (headingBytes (r .result .recipients) (r .result .sent));
@@ -109,9 +110,9 @@ module _ (limit : ℕ) (mem : ServerMemory) (c : ℕ) (input out : List ℕ) (fr
     } ≡ messageWithPlace limit mem c input out
     with-heading =
         let h = headingBytes (r .result .recipients) (r .result .sent) in
-        let six : length h ≡ 6 = length-heading (r .result .recipients) (r .result .sent) in
+        let six : length h ≡ headingSize = length-heading (r .result .recipients) (r .result .sent) in
         let fits : 0 + length h ≤ length (take from out ++ r .result .output) = omega (arith, six, length-append (take from out) (r .result .output), front) in
         let behind : drop (0 + length h) (take from out ++ r .result .output) ≡ r .result .output = drop-at (take from out) (r .result .output) (0 + length h) (omega (arith, front, six)) in
         let headed : overwriteAt back 0 h ≡ h ++ r .result .output =
         ap (λ (x : List ℕ). overwriteAt x 0 h) (rest-back out (r .result .output) from) ∙ overwrite-eq (take from out ++ r .result .output) 0 h fits ∙ ap (λ (x : List ℕ). h ++ x) behind in
-        rw (headed, result-is, place-is, step-done limit mem c input out (eq-eqb _ 0 (rw result-is at done)))
+        rw (headed, result-is, place-is, step-done limit mem c input out (eq-eqb _ done (rw result-is at is-done)))

@@ -4,6 +4,7 @@ use borrow.Author.Needs.{needs}
 use borrow.Author.Tests.{not-true, lt-ltb, le-ltb, eq-eqb, ne-eqb}
 use Rattle.field.specs.Choice.{pick}
 use Rattle.table.specs.Table.{TableMemory, tableMemory}
+use Rattle.soundness.specs.Sound.{connections, closed}
 use Rattle.server.proofs.SoundCall.{SoundCall, sound-call}
 use Rattle.delivery.specs.Delivery.{deliver}
 use Rattle.deliver.proofs.deliver.Statement.{statement}
@@ -51,7 +52,7 @@ unfolding deliver pick
 returns-2 c =
     let t = c .before in
     let s = to-start (t .before) in
-    rw (c .refused .ensures, sound (t .before) .both, le-ltb (s .args .c) 16 (t .if2 .taken))
+    rw (c .refused .ensures, sound (t .before) .both, le-ltb (s .args .c) connections (t .if2 .taken))
 
 slice-read-if3 : tie.Need-slice-read-if3
 slice-read-if3 c = omega (arith, sound (c .before .before) .marks-there, c .before .if2 .left)
@@ -74,7 +75,7 @@ returns-3 c =
     let t = c .before in
     let e = t .before .before in
     let s = to-start (e .before) in
-    rw (c .refused2 .ensures, sound (e .before) .both, lt-ltb (s .args .c) 16 (omega (arith, e .if2 .left)), eq-eqb _ 0 (t .if3 .taken))
+    rw (c .refused2 .ensures, sound (e .before) .both, lt-ltb (s .args .c) connections (omega (arith, e .if2 .left)), eq-eqb _ closed (t .if3 .taken))
 
 deliver-messages-requires : tie.Need-deliver-messages-requires
 deliver-messages-requires c κs = sound (c .before .before .before .before .before .before .before .before) .memory-is
@@ -98,7 +99,7 @@ returns-4 c =
     let f = d .before .before .before .before .before .before in
     let e = f .before .before in
     let s = to-start (e .before) in
-    rw (sound (e .before) .both, lt-ltb (s .args .c) 16 (omega (arith, e .if2 .left)), ne-eqb _ 0 (f .if3 .left)) (d .deliver-messages .ensures)
+    rw (sound (e .before) .both, lt-ltb (s .args .c) connections (omega (arith, e .if2 .left)), ne-eqb _ closed (f .if3 .left)) (d .deliver-messages .ensures)
 
 pub deliver-spec : {M : Type 1} → statement M
 deliver-spec =

@@ -8,9 +8,10 @@ use borrow.Author.Needs.{needs}
 use borrow.Author.Tests.{not-true, not-false}
 use Rattle.field.specs.Place.{WithPlace}
 use Rattle.field.proofs.OctetsLaws.{rest-all}
+use Rattle.table.specs.Table.{maxEntries}
 use Rattle.protocol.specs.Step.{CallResult}
 use Rattle.protocol.specs.Lent.{serverMemory, answered}
-use Rattle.delivery.specs.Delivery.{messageStep, messageWithPlace}
+use Rattle.delivery.specs.Delivery.{maxMessages, messageStep, messageWithPlace}
 use Rattle.delivery.proofs.DeliveryLaws.{Reached, reached-start, reached-most, reached-refused, reached-on, reached-spent, same-output}
 use Rattle.deliver.proofs.deliver_messages.Statement.{statement}
 use Rattle.deliver.proofs.deliver_messages.Tie as tie
@@ -18,10 +19,10 @@ use Rattle.deliver.proofs.deliver_messages.Tie as tie
 abbrev Inv-loop : tie.InvT-loop
 Inv-loop heads₀ bytes₀ count₀ marks₀ c input out₀ messages₀ taken₀ written₀ heads bytes count marks out messages taken written =
     (length heads ≡ length heads₀) × (length bytes ≡ length bytes₀) × (length marks ≡ length marks₀) × (length out ≡ length out₀)
-    × Reached 64 c input (serverMemory heads₀ bytes₀ count₀ marks₀) out₀ (serverMemory heads bytes count marks) out messages taken written
+    × Reached maxEntries c input (serverMemory heads₀ bytes₀ count₀ marks₀) out₀ (serverMemory heads bytes count marks) out messages taken written
 
 abbrev μ-loop : tie.MeasureT-loop
-μ-loop heads₀ bytes₀ count₀ marks₀ c input out₀ messages₀ taken₀ written₀ heads bytes count marks out messages taken written = 64 - messages
+μ-loop heads₀ bytes₀ count₀ marks₀ c input out₀ messages₀ taken₀ written₀ heads bytes count marks out messages taken written = maxMessages - messages
 
 -- behind a message: the loop's head, the function's start, and what was answered with memory and output afterwards
 abbrev head : tie.After-receive-with-heading Inv-loop μ-loop → tie.At-loop Inv-loop μ-loop
@@ -37,20 +38,20 @@ result x =
 
 step : (x : tie.After-receive-with-heading Inv-loop μ-loop)
     → result x
-    ≡ messageWithPlace 64 (serverMemory (head x .loop .heads) (head x .loop .bytes) (head x .loop .count) (head x .loop .marks)) (begin (head x) .args .c)
+    ≡ messageWithPlace maxEntries (serverMemory (head x .loop .heads) (head x .loop .bytes) (head x .loop .count) (head x .loop .marks)) (begin (head x) .args .c)
     (drop (head x .loop .taken) (begin (head x) .args .input .now)) (drop (head x .loop .written) (head x .loop .out))
 step x = rw (rest-all (head x .loop .taken) (begin (head x) .args .input .now), rest-all (head x .loop .written) (head x .loop .out)) at (x .receive-with-heading .ensures)
 
 result-is : (x : tie.After-receive-with-heading Inv-loop μ-loop)
     → result x .result
-    ≡ messageStep 64 (serverMemory (head x .loop .heads) (head x .loop .bytes) (head x .loop .count) (head x .loop .marks)) (begin (head x) .args .c)
+    ≡ messageStep maxEntries (serverMemory (head x .loop .heads) (head x .loop .bytes) (head x .loop .count) (head x .loop .marks)) (begin (head x) .args .c)
     (drop (head x .loop .taken) (begin (head x) .args .input .now)) (drop (head x .loop .written) (head x .loop .out))
 result-is x = ap (λ (r : WithPlace CallResult). r .result) (step x)
 
 more : (x : tie.After-receive-with-heading Inv-loop μ-loop) → head x .loop .taken < length (begin (head x) .args .input .now)
 more x = x .before .before .before .before .before .before .before .before .loop-test .taken
 
-few : (x : tie.After-receive-with-heading Inv-loop μ-loop) → head x .loop .messages < 64
+few : (x : tie.After-receive-with-heading Inv-loop μ-loop) → head x .loop .messages < maxMessages
 few x = omega (arith, head x .loop .inv .4 .few, x .before .before .before .before .before .before .before .if1 .left)
 
 -- a message that was done or ignored
@@ -58,7 +59,7 @@ abbrev call : tie.Else2 Inv-loop μ-loop → tie.After-receive-with-heading Inv-
 call e = e .before .before .before .before .before .before .before .before .before .before
 
 on : (e : tie.Else2 Inv-loop μ-loop)
-    → Reached 64 (begin (head (call e)) .args .c) (begin (head (call e)) .args .input .now)
+    → Reached maxEntries (begin (head (call e)) .args .c) (begin (head (call e)) .args .input .now)
     (serverMemory (begin (head (call e)) .args .heads .now) (begin (head (call e)) .args .bytes .now) (begin (head (call e)) .args .count .now) (begin (head (call e)) .args .marks .now))
     (begin (head (call e)) .args .out .now) (result (call e) .result .memory)
     (take (head (call e) .loop .written) (head (call e) .loop .out)
@@ -69,7 +70,7 @@ on e =
     reached-on (head x .loop .inv .4) (more x) (few x) (result x .result) (result-is x) (sym (e .before .goes-on .ensures) ∙ not-false (e .before .goes-on .result) (e .if2 .left))
 
 loop-holds : tie.Need-loop-holds Inv-loop μ-loop
-loop-holds c = (refl, refl, refl, refl, reached-start 64 _ _ _ _ (c .before .before .before .before .before .pre))
+loop-holds c = (refl, refl, refl, refl, reached-start maxEntries _ _ _ _ (c .before .before .before .before .before .pre))
 
 ended-requires : tie.Need-ended-requires Inv-loop μ-loop
 ended-requires c κs = tt

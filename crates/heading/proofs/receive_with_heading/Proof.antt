@@ -4,8 +4,10 @@ use mathlib.Core.Path.{_≡_}
 use native.Mathlib.Omega.{arith}
 use lib.ListN.{length}
 use Rattle.field.specs.Place.{WithPlace}
+use Rattle.table.specs.Table.{maxEntries}
 use Rattle.protocol.specs.Step.{ServerMemory, CallResult}
 use Rattle.protocol.specs.Lent.{serverMemory, answered}
+use Rattle.delivery.specs.Delivery.{headingSize}
 use Rattle.heading.proofs.HeadingLaws.{without-heading, heading-room, sent-fits, with-heading}
 use borrow.Author.Needs.{needs}
 use Rattle.heading.proofs.receive_with_heading.Statement.{statement}
@@ -26,7 +28,7 @@ result x =
     let d = x .receive-when-sound in
     answered (d .result) (serverMemory (d .last .0) (d .last .1 .0) (d .last .1 .1 .0) (d .last .1 .1 .1 .0)) (d .last .1 .1 .1 .1 .1 .1 .0)
 
-start : (x : tie.After-receive-when-sound) → from x ≡ min 6 (length (begin x .args .out .now))
+start : (x : tie.After-receive-when-sound) → from x ≡ min headingSize (length (begin x .args .out .now))
 start x = x .before .before .before .before .before .before .behind-heading .ensures
 
 abbrev to-call : tie.Else1 → tie.After-receive-when-sound
@@ -63,20 +65,20 @@ returns : tie.Need-returns
 returns c =
     let x = c .before .before .before .before .before .before .before .before .before .before in
     let a = begin x .args in
-    without-heading 64 (memory x) (a .c) (a .input .now) (a .out .now) (from x) (start x) (result x) (x .receive-when-sound .ensures) (c .if1 .taken)
+    without-heading maxEntries (memory x) (a .c) (a .input .now) (a .out .now) (from x) (start x) (result x) (x .receive-when-sound .ensures) (c .if1 .taken)
 
 add-written : tie.Need-add-written
 add-written c =
     let x = to-call c in
     let a = begin x .args in
-    let fits = sent-fits 64 (memory x) (a .c) (a .input .now) (a .out .now) (from x) (start x) (result x) (x .receive-when-sound .ensures) (c .if1 .left) in
+    let fits = sent-fits maxEntries (memory x) (a .c) (a .input .now) (a .out .now) (from x) (start x) (result x) (x .receive-when-sound .ensures) (c .if1 .left) in
     omega (arith, fits, begin x .good)
 
 put-heading-requires : tie.Need-put-heading-requires
 put-heading-requires c κs =
     let x = to-call (c .before) in
     let a = begin x .args in
-    heading-room 64 (memory x) (a .c) (a .input .now) (a .out .now) (from x) (start x) (result x) (x .receive-when-sound .ensures) (c .before .if1 .left) (omega arith)
+    heading-room maxEntries (memory x) (a .c) (a .input .now) (a .out .now) (from x) (start x) (result x) (x .receive-when-sound .ensures) (c .before .if1 .left) (omega arith)
 
 same-length-5 : tie.Need-same-length-5
 same-length-5 c = search needs
@@ -96,7 +98,7 @@ returns-2 c =
     let x = to-call e in
     let a = begin x .args in
     rw (c .before .before .put-heading .ensures)
-    (with-heading 64 (memory x) (a .c) (a .input .now) (a .out .now) (from x) (start x) (result x) (x .receive-when-sound .ensures) (e .if1 .left))
+    (with-heading maxEntries (memory x) (a .c) (a .input .now) (a .out .now) (from x) (start x) (result x) (x .receive-when-sound .ensures) (e .if1 .left))
 
 pub receive-with-heading-spec : {M : Type 1} → statement M
 receive-with-heading-spec =
