@@ -295,7 +295,7 @@ static const uint8_t stream_written[] = {
 
 /* Each room for the example's output: a message has room whole, with its heading, or not at all. */
 static void rooms_of_a_delivery(table t, block *out) {
-    static const size_t ends[] = {0, 7, 23, 35}, taken[] = {0, 3, 13, sizeof stream};
+    static const size_t ends[] = {0, 7, 23, 35}, taken[] = {0, 3, 13};
     for (size_t room = 0, done = 0; room < sizeof stream_written; room++) {
         while (ends[done + 1] <= room)
             done++;
@@ -317,7 +317,7 @@ static void ends_of_a_delivery(table t, block *out) {
     nt2_delivered d = deliver(t, 0, keep_alives, NT2_DELIVERY_MESSAGES, out, 0);
     CHECK(delivers(d, NT2_ENDED_SPENT, 64, 64, 0));
     d = deliver(t, 0, keep_alives, sizeof keep_alives, out, 0);
-    CHECK(delivers(d, NT2_ENDED_MOST, 64, 64, 0));
+    CHECK(delivers(d, NT2_ENDED_MAX_REACHED, 64, 64, 0));
     d = deliver(t, 0, good_and_bad, sizeof good_and_bad - 1, out, 100);
     CHECK(delivers_until(d, NT2_NOT_BOOLEAN, 5, 1, 6, NT2_HEADING + 6));
     CHECK(delivers_until(deliver(t, 1, "", 0, out, 100), NT2_STATE, 0, 0, 0, 0));

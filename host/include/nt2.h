@@ -27,7 +27,7 @@ enum {
     NT2_LONGEST_ASSIGNMENT = 328,
     NT2_LONGEST_UPDATE = 261,
     NT2_LONGEST_HELLO_ANSWER = 20993,
-    NT2_HEADING = 6,           /* before each message that a delivery writes */
+    NT2_HEADING = 6,           /* before what each message of a delivery sends */
     NT2_DELIVERY_MESSAGES = 64 /* at most, in one delivery */
 };
 
@@ -78,7 +78,7 @@ enum { NT2_CLOSED = 0, NT2_OPEN = 1, NT2_GREETED = 2 };
 enum { NT2_FOUND_BOOLEAN = 0, NT2_FOUND_DOUBLE = 1, NT2_FOUND_NEITHER = 2 };
 
 /* How a delivery ended. */
-enum { NT2_ENDED_REFUSED = 0, NT2_ENDED_SPENT = 1, NT2_ENDED_MOST = 2 };
+enum { NT2_ENDED_REFUSED = 0, NT2_ENDED_SPENT = 1, NT2_ENDED_MAX_REACHED = 2 };
 
 /* One entry head. */
 typedef struct {
@@ -113,9 +113,9 @@ typedef struct {
 } nt2_answer;
 
 /* What came of a delivery: how it ended, the messages taken (those done and those ignored), their
- * bytes, and the bytes written. At a refusal number and place tell of the message that was refused;
- * the messages before it stand and are reported. Otherwise the number is 0: no input is left
- * (NT2_ENDED_SPENT), or the most messages were taken and some is (NT2_ENDED_MOST).
+ * bytes, and the bytes written. At a refusal number and place tell of it; the messages before it
+ * stand and are reported. Otherwise the number is 0: no input is left (NT2_ENDED_SPENT), or 64
+ * messages were taken and input is left (NT2_ENDED_MAX_REACHED).
  */
 typedef struct {
     uint8_t number;
@@ -182,10 +182,12 @@ nt2_answer nt2_receive(nt2_head *heads, size_t heads_length, uint8_t *bytes, siz
  * closed connection, NT2_STATE come first, without input too.
  *
  * The output has, for each message that is done, a heading and the bytes to be sent. The heading is
- * the recipients (2 bytes) and the number of these bytes (4 bytes), both big endian. A message is
- * refused with NT2_ROOM if heading and bytes do not fit together; one that is ignored needs no
- * room. NT2_HEADING + NT2_LONGEST_HELLO_ANSWER bytes have room for any message, so one that had no
- * room behind others has it in a further delivery.
+ * the recipients (2 bytes) and the number of these bytes (4 bytes), both big endian. All that was
+ * written is to be sent, whatever the answer's number is.
+ *
+ * A message is refused with NT2_ROOM if heading and bytes do not fit together; one that is ignored
+ * needs no room. NT2_HEADING + NT2_LONGEST_HELLO_ANSWER bytes have room for any message, so one that
+ * had no room behind others has it in a further delivery.
  */
 nt2_delivered nt2_deliver(nt2_head *heads, size_t heads_length, uint8_t *bytes,
                           size_t bytes_length, uint16_t *count, uint8_t *marks,

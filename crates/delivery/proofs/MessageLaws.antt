@@ -11,13 +11,17 @@ use borrow.Author.Tests.{eqb-true, eqb-false}
 use Rattle.field.specs.Answer.{done, ignored}
 use Rattle.field.specs.Octets.{encode16}
 use Rattle.field.proofs.ChoiceLaws.{by-test, pick-true, pick-false}
+use Rattle.protocol.specs.Judge.{clientMessage}
 use Rattle.protocol.specs.Step.{ServerMemory, CallResult, callStep}
 use Rattle.protocol.specs.Answered.{RightlyAnswered, MessageProgress}
 use Rattle.protocol.specs.Kept.{SoundMemory}
+use Rattle.protocol.specs.Taken.{messageCall}
 use Rattle.protocol.proofs.AnswerLaws.{call-answered}
 use Rattle.protocol.proofs.ProgressLaws.{call-progress}
+use Rattle.protocol.proofs.RefusedLaws.{call-needs-room}
 use Rattle.protocol.proofs.SoundnessLaws.{sound-kept}
 use Rattle.delivery.specs.Delivery.{headingSize, headingBytes, judgedCall, withHeading, messageStep, goesOn}
+use Rattle.delivery.specs.Message.{MessageAnswered, MessageNeedsRoom}
 use Rattle.delivery.specs.Sent.{sentByCall, headed}
 
 pub length-heading : (recipients n : ℕ) → length (headingBytes recipients n) ≡ headingSize
@@ -133,3 +137,29 @@ step-facts limit mem c input out =
 
 pub step-sound : (limit : ℕ) (mem : ServerMemory) (c : ℕ) (input out : List ℕ) → SoundMemory limit mem → SoundMemory limit (messageStep limit mem c input out .memory)
 step-sound limit mem c input out s = rw (step-facts limit mem c input out .same-memory) (sound-kept limit mem s (judgedCall c input out))
+
+-- ---- demand 1, and room
+
+pub message-answered : MessageAnswered
+unfolding messageStep withHeading
+message-answered limit mem c input out =
+    let one = callStep limit mem (judgedCall c input out) in
+    let answered = call-answered limit mem (judgedCall c input out) in
+    by-test (RightlyAnswered mem out) (eqb (one .number) done) _ _
+    (λ is-done. record { numbers = answered .numbers; refusal-takes-nothing = answered .refusal-takes-nothing; unchanged = λ other. absurd (other (eqb-true _ _ is-done)) })
+    (λ other. record {
+      numbers = answered .numbers;
+      refusal-takes-nothing = answered .refusal-takes-nothing;
+      unchanged = λ n. let u = answered .unchanged n in (u .0, refl, refl, u .3);
+    })
+
+pub message-needs-room : MessageNeedsRoom
+unfolding messageStep withHeading
+message-needs-room limit mem c input room out e =
+    let needs = call-needs-room limit mem (clientMessage c input) room (drop headingSize out) e in
+    let some : 1 ≤ callStep limit mem (messageCall c input room) .sent = call-progress limit mem c input room .sends-some e in
+    let left = length-drop headingSize out in
+    record {
+      fits = λ l. step-facts limit mem c input out .same-number ∙ needs .fits (omega (arith, l, left));
+      too-short = λ l. ap (withHeading out) (needs .too-short (omega (arith, l, left, some))) ∙ pick-false _ _ refl;
+    }

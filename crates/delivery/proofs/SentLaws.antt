@@ -16,8 +16,9 @@ use Rattle.field.proofs.ChoiceLaws.{by-test, pick-true, pick-false}
 use Rattle.recipients.specs.Recipients.{testBit}
 use Rattle.protocol.specs.Step.{ServerMemory, LentCall, CallResult, callStep}
 use Rattle.protocol.specs.Run.{memoryAfterRun, addressedByCall, addressedBytes}
+use Rattle.convergence.proofs.RunLaws.{sound-run}
 use Rattle.delivery.specs.Delivery.{DeliveryResult, maxMessages, headingSize, headingBytes, atRefusal, inputSpent, maxReached, judgedCall, messageStep, goesOn, endsHere, refusedHere, ahead, deliver, callsOf}
-use Rattle.delivery.specs.Sent.{Sending, sentByCall, sentByCalls, addressedTo, SameAddressed, headed, behindHeadings, DeliveryIsCalls, Within, DeliveryWithin}
+use Rattle.delivery.specs.Sent.{Sending, sentByCall, sentByCalls, addressedTo, SameAddressed, headed, behindHeadings, DeliveryIsCalls, Within, DeliveryWithin, DeliverySoundKept}
 use Rattle.delivery.proofs.MessageLaws.{length-heading, not-done, StepFacts, step-facts}
 use Rattle.delivery.proofs.InductionLaws.{by-messages, by-ready}
 
@@ -167,3 +168,6 @@ delivery-within limit mem c input out =
     by-ready limit mem c input out (λ d _. Within maxMessages input out d) (λ number _. within-none maxMessages number atRefusal 0 mem input out)
     (by-messages limit c (λ most m i o d _. Within most i o d) (λ most m i o _. within-none most done inputSpent 0 m i o) (λ m i o _. within-none 0 done maxReached 0 m i o)
     (λ most m i o _ r step a. within-none (suc most) (r .number) atRefusal _ m i o) (λ most m i o _ r step _ d _. within-taken limit c most m i o r step d) maxMessages mem input out)
+
+pub delivery-sound-kept : DeliverySoundKept
+delivery-sound-kept limit mem s c input out = rw (delivery-is-calls limit mem c input out .memory) (sound-run limit mem (callsOf limit mem c input out) s)

@@ -24,9 +24,13 @@ maxMessages = 64
 abbrev pub headingSize : ℕ
 headingSize = 6
 
+-- a number in 4 bytes, big endian: the higher two, then the lower two
+abbrev pub encode32 : ℕ → List ℕ
+encode32 n = encode16 (n / 65536) ++ encode16 (n % 65536)
+
 -- "recipients (2 bytes) and length (4 bytes, big endian)"
 unfoldable pub headingBytes : (recipients length : ℕ) → List ℕ
-headingBytes recipients length = encode16 recipients ++ (encode16 (length / 65536) ++ encode16 (length % 65536))
+headingBytes recipients length = encode16 recipients ++ encode32 length
 
 -- a message judged is one call, "lent the output left after the previous message and this heading (none if under six bytes are left)"
 abbrev pub judgedCall : (c : ℕ) (input out : List ℕ) → LentCall

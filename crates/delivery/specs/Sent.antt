@@ -11,6 +11,7 @@ use Rattle.field.specs.Octets.{decode16}
 use Rattle.recipients.specs.Recipients.{testBit}
 use Rattle.protocol.specs.Step.{ServerMemory, LentCall, CallResult, callStep}
 use Rattle.protocol.specs.Run.{memoryAfterRun, addressedBytes}
+use Rattle.protocol.specs.Kept.{SoundMemory}
 use Rattle.delivery.specs.Delivery.{DeliveryResult, maxMessages, headingSize, headingBytes, deliver, callsOf}
 
 pub record Sending : Type 0 where
@@ -38,9 +39,13 @@ SameAddressed = (limit : ℕ) (mem : ServerMemory) (c : ℕ) (ks : List LentCall
 
 -- ---- of a delivery
 
+-- the number that the first 4 bytes are
+abbrev pub decode32 : List ℕ → ℕ
+decode32 s = decode16 s * 65536 + decode16 (drop 2 s)
+
 -- the length that a heading states, behind its recipients
 abbrev pub statedLength : List ℕ → ℕ
-statedLength s = decode16 (drop 2 s) * 65536 + decode16 (drop 4 s)
+statedLength s = decode32 (drop 2 s)
 
 -- "the bytes behind a heading go to the recipients named there", of at most so many headings
 unfoldable pub behindHeadings : (most : ℕ) → List ℕ → List Sending
@@ -82,3 +87,8 @@ pub record Within (most : ℕ) (input out : List ℕ) (d : DeliveryResult) : Typ
 
 abbrev pub DeliveryWithin : Type 0
 DeliveryWithin = (limit : ℕ) (mem : ServerMemory) (c : ℕ) (input out : List ℕ) → Within maxMessages input out (deliver limit mem c input out)
+
+-- sound memory stays sound
+abbrev pub DeliverySoundKept : Type 0
+DeliverySoundKept =
+    (limit : ℕ) (mem : ServerMemory) → SoundMemory limit mem → (c : ℕ) (input out : List ℕ) → SoundMemory limit (deliver limit mem c input out .memory)

@@ -21,7 +21,7 @@ numbers (h ∷ hs) = h .«name_length» ∷ h .«value_length» ∷ h .«type_co
 unfoldable pub flatHeads : List Head → List ℕ
 flatHeads hs = numbers (take maxEntries hs)
 
--- how many heads a call may have changed: none unless it is done
+-- how many heads are made of the numbers: none unless the number is 0
 unfoldable pub changed : ℕ → ℕ
 changed number = pick (eqb number done) maxEntries 0
 

@@ -15,7 +15,7 @@ pub struct Head {
     pub number: u16,
 }
 
-// How many heads a call may have changed: none unless it is done.
+// How many heads are made of the numbers: none unless the number is 0.
 fn changed(number: u8) -> usize
     ensures { λ r. ⌜ r ≡ changed number ⌝ }
 {

@@ -1,17 +1,18 @@
 -- What must be refused is refused: the check that fails is the first one.
-use mathlib.Core.Path.{_≡_, refl, sym, _∙_}
+use mathlib.Core.Path.{_≡_, refl, sym, ap, _∙_}
 use mathlib.Core.Logic.{_≢_}
-use mathlib.Core.Bool.{false, _&&_, and-false}
+use mathlib.Core.Bool.{Bool, true, false, _&&_, and-false}
 use mathlib.Core.List.{List, [], _∷_, _++_}
 use Prim.Native.Nat.{ℕ, suc, _≤_, _<_}
 use native.Mathlib.Omega.{arith}
+use lib.Dec.{leb}
 use lib.ListN.{length, getD}
 use borrow.Author.Tests.{le-leb, lt-leb, lt-ltb, le-ltb, ne-eqb}
-use Rattle.field.specs.Answer.{connectionTooHigh, unknownId}
+use Rattle.field.specs.Answer.{done, connectionTooHigh, unknownId, outputTooShort, unsound}
 use Rattle.field.specs.Choice.{pick}
 use Rattle.field.specs.Field.{faultAt}
 use Rattle.field.specs.Octets.{encode16}
-use Rattle.field.proofs.ChoiceLaws.{pick-false}
+use Rattle.field.proofs.ChoiceLaws.{by-test, pick-true, pick-false}
 use Rattle.field.proofs.OctetsLaws.{decode-encode}
 use Rattle.value.proofs.ValueLaws.{lone-taken}
 use Rattle.message.specs.Layout.{helloKind, assignmentKind, updateKind, kindSize, updateBytes, hello, assignment, update, layout}
@@ -20,11 +21,11 @@ use Rattle.message.proofs.ReaderLaws.{update-unknown}
 use Rattle.table.specs.Table.{entryOf, parseHeldUpdate, entriesOf}
 use Rattle.table.proofs.TabulateLaws.{length-entries}
 use Rattle.soundness.specs.Sound.{soundTable, soundMarks, connections, greeted}
-use Rattle.protocol.specs.Judge.{Call, openConnection, leave, clientMessage, localCreate, localWrite, readEntry, protocolRevision, newId, judgeHello, judgeUpdate, judgeKind, judgeMessage, judgeCreate, judgeWrite, judge}
-use Rattle.protocol.specs.Step.{ServerMemory, refusal, execute, soundFor, callStep}
+use Rattle.protocol.specs.Judge.{Call, openConnection, leave, clientMessage, localCreate, localWrite, readEntry, Verdict, refuse, ignore, readDone, openMark, closeMark, acceptHello, unsupportedRevision, storeNew, storeUpdate, protocolRevision, newId, judgeHello, judgeUpdate, judgeKind, judgeMessage, judgeCreate, judgeWrite, judge}
+use Rattle.protocol.specs.Step.{ServerMemory, CallResult, refusal, execute, soundFor, callStep}
 use Rattle.protocol.specs.Kept.{SoundMemory}
 use Rattle.protocol.specs.Taken.{messageCall}
-use Rattle.protocol.specs.Refused.{Concerns, Refused, UnsoundTableRefused, UnsoundMarksRefused, TooHighRefused, ClosedRefused, OpenAgainRefused, EmptyRefused, KindRefused, GreetedHelloRefused, UngreetedRefused, UnknownIdRefused, FullRefused, HelloNoRoom, AssignmentNoRoom, UpdateNoRoom, OtherRevisionNoRoom, CreateNoRoom, WriteNoRoom, HeldNameRefused, NoEntryRefused}
+use Rattle.protocol.specs.Refused.{Concerns, Refused, UnsoundTableRefused, UnsoundMarksRefused, TooHighRefused, ClosedRefused, OpenAgainRefused, EmptyRefused, KindRefused, GreetedHelloRefused, UngreetedRefused, UnknownIdRefused, FullRefused, RoomDecides, CallNeedsRoom, HelloNoRoom, AssignmentNoRoom, UpdateNoRoom, OtherRevisionNoRoom, CreateNoRoom, WriteNoRoom, HeldNameRefused, NoEntryRefused}
 use Rattle.protocol.proofs.SoundnessLaws.{step-is}
 use Rattle.protocol.proofs.MessageLaws.{comesTo, connected, client-step}
 use Rattle.protocol.proofs.ChangeLaws.{held}
@@ -134,6 +135,42 @@ full-refused limit mem s c b g e rest out w h l =
     client-step limit mem s c (connected mem c b (omega arith)) (assignment newId e) (refl, w) rest out ∙ rw (g, h, le-ltb _ _ f)
 
 -- ---- room
+
+-- where nothing is sent, no room is needed
+no-need : (mem : ServerMemory) (out : List ℕ) (done-with r : CallResult) → done-with .sent ≡ 0 → r .number ≡ done → RoomDecides mem out done-with r
+no-need mem out done-with r none e = record { fits = λ _. e; too-short = λ l. absurd (omega (arith, none)) }
+
+module _ (mem : ServerMemory) (room out : List ℕ) where
+  answer-needs : (size : ℕ) (x y : CallResult) → x .sent ≡ size → y .number ≡ done → pick (leb size (length room)) x (refusal mem room outputTooShort) .number ≡ done
+      → RoomDecides mem out (pick (leb size (length room)) x (refusal mem room outputTooShort)) (pick (leb size (length out)) y (refusal mem out outputTooShort))
+  answer-needs size x y sent is-done =
+      by-test (λ (z : CallResult). z .number ≡ done → RoomDecides mem out z (pick (leb size (length out)) y (refusal mem out outputTooShort))) (leb size (length room)) _ _
+      (λ _ _. record {
+        fits = λ l. ap (λ (z : CallResult). z .number) (pick-true _ _ (le-leb size (length out) (omega (arith, l, sent)))) ∙ is-done;
+        too-short = λ l. pick-false _ _ (lt-leb size (length out) (omega (arith, l, sent)));
+      })
+      (λ _ e. absurd (omega (arith, e)))
+
+  executed-needs : (v : Verdict) → execute mem room v .number ≡ done → RoomDecides mem out (execute mem room v) (execute mem out v)
+  unfolding execute
+  executed-needs (refuse fault) e = no-need mem out _ _ refl e
+  executed-needs (ignore taken) e = no-need mem out _ _ refl e
+  executed-needs readDone e = answer-needs _ _ _ refl refl e
+  executed-needs (openMark c) e = answer-needs _ _ _ refl refl e
+  executed-needs (closeMark c) e = answer-needs _ _ _ refl refl e
+  executed-needs (acceptHello c) e = answer-needs _ _ _ refl refl e
+  executed-needs (unsupportedRevision c) e = answer-needs _ _ _ refl refl e
+  executed-needs (storeNew new taken) e = answer-needs _ _ _ refl refl e
+  executed-needs (storeUpdate id number value taken to) e = answer-needs _ _ _ refl refl e
+
+pub call-needs-room : CallNeedsRoom
+unfolding callStep
+call-needs-room limit mem call room out = go (soundFor limit mem call) (judge limit (entriesOf (mem .table)) (mem .marks) call)
+  where
+    go : (b : Bool) (v : Verdict) → pick b (execute mem room v) (refusal mem room unsound) .number ≡ done
+        → RoomDecides mem out (pick b (execute mem room v) (refusal mem room unsound)) (pick b (execute mem out v) (refusal mem out unsound))
+    go true v = unfold pick in executed-needs mem room out v
+    go false v = unfold pick in λ e. no-need mem out _ _ refl e
 
 pub hello-no-room : HelloNoRoom
 unfolding comesTo execute pick layout

@@ -23,7 +23,7 @@ abbrev pub CallAnswered : Type 0
 CallAnswered = (limit : ℕ) (mem : ServerMemory) (k : LentCall) → RightlyAnswered mem (k .output) (callStep limit mem k)
 
 -- a client's message: what is taken is there, and some of it where the answer is 0 or 16; with 0 some bytes are sent, for which there is room, and
--- no more than the longest answer to a hello has (or a revision, where the limit is 0); the output behind them is as it was lent
+-- no more than the longest answer to a hello and a revision have together; the output behind them is as it was lent
 pub record MessageProgress (limit : ℕ) (message out : List ℕ) (r : CallResult) : Type 0 where
   pub takes-there : r .taken ≤ length message
   pub takes-some : (r .number ≡ done) ⊎ (r .number ≡ ignored) → 1 ≤ r .taken

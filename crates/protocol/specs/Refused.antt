@@ -5,7 +5,7 @@ use mathlib.Core.List.{List, [], _∷_, _++_}
 use mathlib.Core.Path.{_≡_}
 use mathlib.Core.Logic.{_≢_}
 use lib.ListN.{length, getD}
-use Rattle.field.specs.Answer.{incomplete, connectionTooHigh, wrongState, unknownKind, unknownId, tableFull, outputTooShort, nameTaken, unsound}
+use Rattle.field.specs.Answer.{done, incomplete, connectionTooHigh, wrongState, unknownKind, unknownId, tableFull, outputTooShort, nameTaken, unsound}
 use Rattle.sequence.specs.SequenceNumber.{nextNumber, passedBy}
 use Rattle.value.specs.Value.{IsValue}
 use Rattle.scalar.specs.Scalar.{equalValues}
@@ -15,7 +15,7 @@ use Rattle.table.specs.Table.{entryOf, entriesOf}
 use Rattle.soundness.specs.Sound.{soundTable, soundMarks, connections, closed, open′, greeted}
 use Rattle.hello.specs.Hello.{helloAnswer}
 use Rattle.protocol.specs.Judge.{Call, openConnection, leave, clientMessage, localCreate, localWrite, readEntry, protocolRevision, newId, newEntry}
-use Rattle.protocol.specs.Step.{ServerMemory, LentCall, refusal, callStep}
+use Rattle.protocol.specs.Step.{ServerMemory, LentCall, CallResult, refusal, callStep}
 use Rattle.protocol.specs.Run.{helloCall}
 use Rattle.protocol.specs.Kept.{SoundMemory}
 use Rattle.protocol.specs.Taken.{messageCall}
@@ -105,6 +105,17 @@ FullRefused =
     → Refused limit mem (messageCall c (assignmentBytes newId e ++ rest) out) tableFull
 
 -- ---- "last the output room (12), given exactly when the output is shorter than what would be sent"
+
+-- of a call that is done in some output: what comes of it in another
+pub record RoomDecides (mem : ServerMemory) (out : List ℕ) (done-with r : CallResult) : Type 0 where
+  pub fits : done-with .sent ≤ length out → r .number ≡ done
+  pub too-short : length out < done-with .sent → r ≡ refusal mem out outputTooShort
+
+abbrev pub CallNeedsRoom : Type 0
+CallNeedsRoom =
+    (limit : ℕ) (mem : ServerMemory) (call : Call) (room out : List ℕ)
+    → callStep limit mem (record { call = call; output = room }) .number ≡ done
+    → RoomDecides mem out (callStep limit mem (record { call = call; output = room })) (callStep limit mem (record { call = call; output = out }))
 
 abbrev pub HelloNoRoom : Type 0
 HelloNoRoom =

@@ -363,7 +363,8 @@ impl Subject {
             held.iter_mut().for_each(|head| head.number = FIRST_NUMBER);
             if delivered {
                 let delivered = self.deliver::<I>(&updates);
-                assert_eq!(delivered.written, updates.len() + DELIVERY_MESSAGES * HEADING);
+                let written = updates.len() + DELIVERY_MESSAGES * HEADING;
+                assert_eq!((delivered.number, delivered.written), (0, written));
             } else {
                 let mut taken = 0;
                 while taken < updates.len() {

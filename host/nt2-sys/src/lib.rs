@@ -24,7 +24,7 @@ pub const LONGEST_ASSIGNMENT: usize = 8 + NAME_ROOM + VALUE_ROOM;
 pub const LONGEST_UPDATE: usize = 5 + VALUE_ROOM;
 /// Bytes of the longest answer to a hello.
 pub const LONGEST_HELLO_ANSWER: usize = ENTRIES * LONGEST_ASSIGNMENT + 1;
-/// Bytes of the heading before each message that a delivery writes.
+/// Bytes of the heading before what each message of a delivery sends.
 pub const HEADING: usize = 6;
 /// Messages of a delivery at most.
 pub const DELIVERY_MESSAGES: usize = 64;
@@ -73,15 +73,19 @@ impl Delivered {
     pub const REFUSED: u8 = 0;
     /// No input is left.
     pub const SPENT: u8 = 1;
-    /// The most messages were taken, and input is left.
-    pub const MOST: u8 = 2;
+    /// [`DELIVERY_MESSAGES`] were taken, and input is left.
+    pub const MAX_REACHED: u8 = 2;
 }
 
 /// The recipients of each heading and the bytes behind it, in what a delivery wrote. Panics where a
-/// heading names more bytes than there are.
+/// heading is cut, or names more bytes than there are.
 pub fn headed(mut written: &[u8]) -> impl Iterator<Item = (u16, &[u8])> {
     iter::from_fn(move || {
-        let (&[r, s, a, b, c, d], rest) = written.split_first_chunk::<HEADING>()?;
+        if written.is_empty() {
+            return None;
+        }
+        let whole = written.split_first_chunk::<HEADING>().expect("a whole heading");
+        let (&[r, s, a, b, c, d], rest) = whole;
         let (bytes, rest) = rest.split_at(u32::from_be_bytes([a, b, c, d]) as usize);
         written = rest;
         Some((u16::from_be_bytes([r, s]), bytes))

@@ -211,7 +211,7 @@ pub enum Ended {
     /// No input is left.
     Spent,
     /// [`DELIVERY_MESSAGES`](crate::DELIVERY_MESSAGES) were taken, and input is left.
-    Most,
+    MaxReached,
     /// The next message was refused. A place counts from that message's start.
     Refused(Refusal),
 }
@@ -233,7 +233,7 @@ impl<'a> Delivery<'a> {
         let Delivered { number, ended, messages, taken, written, place } = delivered;
         let ended = match ended {
             Delivered::SPENT => Ended::Spent,
-            Delivered::MOST => Ended::Most,
+            Delivered::MAX_REACHED => Ended::MaxReached,
             _ => Ended::Refused(refusal(number, Some(Place::Message(place)))),
         };
         Delivery { ended, messages, taken, written: &out[..written] }

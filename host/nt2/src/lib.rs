@@ -23,8 +23,8 @@
 //! # Ok::<(), nt2::Refusal>(())
 //! ```
 //!
-//! [`ServerTable::deliver`] takes all messages of a client's bytes in one call. What those before a
-//! refused one have done stands, and is sent:
+//! [`ServerTable::deliver`] takes up to 64 messages of a client's bytes in one call. What those before
+//! a refused one have done stands, and is sent:
 //!
 //! ```
 //! use nt2::{Ended, HEADING, LONGEST_HELLO_ANSWER, Refusal, ServerTable};

@@ -88,9 +88,11 @@ fn delivery_goes_on_where_there_was_no_room() {
 fn delivery_has_a_number_of_messages() {
     let keep_alives = [0; DELIVERY_MESSAGES + 1];
     let mut table = opened();
-    for (length, ended) in
-        [(0, Ended::Spent), (DELIVERY_MESSAGES, Ended::Spent), (DELIVERY_MESSAGES + 1, Ended::Most)]
-    {
+    for (length, ended) in [
+        (0, Ended::Spent),
+        (DELIVERY_MESSAGES, Ended::Spent),
+        (DELIVERY_MESSAGES + 1, Ended::MaxReached),
+    ] {
         let delivery = table.deliver(0, &keep_alives[..length], &mut []);
         let taken = length.min(DELIVERY_MESSAGES);
         assert_eq!((delivery.ended, delivery.messages, delivery.taken), (ended, taken, taken));

@@ -172,7 +172,7 @@ impl<'a> Server<'a> {
         self.mark(connection)?;
         while delivered.taken < input.len() {
             if delivered.messages == DELIVERY_MESSAGES {
-                return Ok(Delivered::MOST);
+                return Ok(Delivered::MAX_REACHED);
             }
             let message = &input[delivered.taken..];
             let rest = &mut out[delivered.written..];

@@ -13,22 +13,16 @@ use std::fmt::Write;
 use std::fs;
 use std::path::{Path, PathBuf};
 
-/// The files of cases, with the number of cases in each that are replayed.
+/// The files of cases, with the number of cases in each.
 pub const FILES: [(&str, usize); 8] = [
     ("client.json", 2527),
     ("copy.json", 755),
+    ("deliver.json", 111),
     ("listing.json", 63),
     ("local.json", 846),
-    ("requests.json", 111),
     ("runs.json", 130),
     ("unsound.json", 1321),
     ("writer.json", 1960),
-];
-
-/// Calls that there are not yet. Their cases are not replayed.
-const LATER_CALLS: [&str; 11] = [
-    "replay", "counts", "why", "save", "load", "recall", "pattern", "copy12", "bench", "reader3",
-    "writer3",
 ];
 
 /// Bytes that the listing program reads.
@@ -41,7 +35,7 @@ pub fn folder() -> PathBuf {
     Path::new(env!("CARGO_MANIFEST_DIR")).join("../cases")
 }
 
-/// What came of a file: how many cases were replayed, and a line for each that failed.
+/// What came of a file: the cases replayed, and a line for each that failed.
 #[derive(Debug)]
 pub struct Replayed {
     pub cases: usize,
@@ -57,18 +51,12 @@ pub fn replay<I: Implementation>(folder: &Path, file: &str) -> Checked<Replayed>
     }
     let memories = member(&json, "mems")?.list()?;
     let memories: Vec<Memory> = memories.iter().map(memory).collect::<Checked<_>>()?;
-    let mut replayed = Replayed { cases: 0, failures: Vec::new() };
-    for (place, case) in member(&json, "cases")?.list()?.iter().enumerate() {
-        let name = member(case, "c")?.text()?;
-        if LATER_CALLS.contains(&name) {
-            continue;
-        }
-        replayed.cases += 1;
-        if let Err(failure) = check::<I>(&memories, case, name) {
-            replayed.failures.push(format!("{file}, case {place}: {failure}"));
-        }
-    }
-    Ok(replayed)
+    let cases = member(&json, "cases")?.list()?;
+    let failures = cases.iter().enumerate().filter_map(|(place, case)| {
+        let failure = check::<I>(&memories, case).err()?;
+        Some(format!("{file}, case {place}: {failure}"))
+    });
+    Ok(Replayed { cases: cases.len(), failures: failures.collect() })
 }
 
 fn member<'a>(json: &'a Json, key: &str) -> Checked<&'a Json> {
@@ -167,11 +155,11 @@ fn changed(mut memory: Memory, case: &Json) -> Checked<Memory> {
     Ok(memory)
 }
 
-fn check<I: Implementation>(memories: &[Memory], case: &Json, name: &str) -> Checked {
-    match name {
+fn check<I: Implementation>(memories: &[Memory], case: &Json) -> Checked {
+    match member(case, "c")?.text()? {
         "listing" => check_listing::<I>(case),
         "run" => check_run::<I>(memories, case),
-        _ => check_call::<I>(memories, case, name),
+        name => check_call::<I>(memories, case, name),
     }
 }
 
@@ -275,7 +263,7 @@ fn check_delivered(case: &Json, call: &Call, delivered: Delivered) -> Checked {
     let ended = match why.text()? {
         "refused" => Delivered::REFUSED,
         "spent" => Delivered::SPENT,
-        "64" => Delivered::MOST,
+        "64" => Delivered::MAX_REACHED,
         why => return Err(format!("a delivery ended by {why:?}")),
     };
     let expected = Delivered {

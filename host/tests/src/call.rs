@@ -219,7 +219,7 @@ impl Outcome {
         let in_form = match *self {
             Outcome::Delivered(d) => match d.ended {
                 Delivered::REFUSED => refused,
-                Delivered::SPENT | Delivered::MOST => number == 0,
+                Delivered::SPENT | Delivered::MAX_REACHED => number == 0,
                 _ => false,
             },
             _ if number == 0 => true,

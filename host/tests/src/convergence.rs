@@ -1,15 +1,13 @@
 //! Demand 3: after any run each clean client's copy equals the table.
 
 use crate::call::{Call, Outcome};
-use crate::delivery::{SingleCalls, Taken};
+use crate::delivery::{HELLO, SingleCalls, Taken};
 use crate::generate::{Generator, MOST_ROOM, Weights};
 use crate::implementation::Implementation;
 use crate::memory::{Guarded, Memory};
 use crate::random::Random;
 use nt2_sys::{Answer, CONNECTIONS, ENTRIES, Head, TABLE_BYTES, headed};
 
-/// A hello that is accepted where it is done.
-const HELLO: &[u8] = &[0x01, 0x02, 0x00];
 /// The kind of an update.
 const UPDATE: u8 = 0x11;
 
@@ -61,7 +59,7 @@ impl Clients {
         written: &[u8],
     ) -> Result<(), String> {
         let mut headed = headed(written);
-        for taken in made.taken.iter().filter(|taken| taken.answer.number == 0) {
+        for taken in made.messages.iter().filter(|taken| taken.answer.number == 0) {
             let (recipients, bytes) = headed.next().ok_or("a heading is missing")?;
             self.follow_message(connection, taken.message, recipients, bytes);
         }
@@ -231,9 +229,9 @@ impl Run {
     fn count(&mut self, outcome: Outcome, made: &SingleCalls<'_>) {
         self.calls += 1;
         self.done += usize::from(outcome.number() == 0);
-        self.delivered += made.taken.len();
+        self.delivered += made.messages.len();
         let hello = |taken: &&Taken<'_>| taken.answer.number == 0 && taken.message == HELLO;
-        self.hellos_delivered += made.taken.iter().filter(hello).count();
+        self.hellos_delivered += made.messages.iter().filter(hello).count();
     }
 }
 

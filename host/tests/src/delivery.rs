@@ -4,8 +4,11 @@ use crate::implementation::Implementation;
 use crate::memory::Memory;
 use nt2_sys::{Answer, DELIVERY_MESSAGES, Delivered, HEADING};
 
+/// A hello that is accepted where it is done.
+pub const HELLO: &[u8] = &[0x01, 0x02, 0x00];
+
 /// What a delivery can be like: so many sorts.
-pub const SORTS: usize = 13;
+pub const SORTS: usize = 14;
 
 /// A message of a delivery, as a single call takes it.
 #[derive(Clone, Debug)]
@@ -20,7 +23,9 @@ pub struct Taken<'a> {
 #[derive(Clone, Debug, Default)]
 pub struct SingleCalls<'a> {
     pub delivered: Delivered,
-    pub taken: Vec<Taken<'a>>,
+    pub messages: Vec<Taken<'a>>,
+    /// Bytes of output left at the end.
+    pub left: usize,
 }
 
 impl<'a> SingleCalls<'a> {
@@ -41,7 +46,7 @@ impl<'a> SingleCalls<'a> {
                 break;
             }
             if delivered.messages == DELIVERY_MESSAGES {
-                delivered.ended = Delivered::MOST;
+                delivered.ended = Delivered::MAX_REACHED;
                 break;
             }
             let message = &input[delivered.taken..];
@@ -51,7 +56,10 @@ impl<'a> SingleCalls<'a> {
             let (table, marks) = server.lend();
             let answer = I::receive(table, marks, connection, message, room);
             match answer.number {
-                0 => delivered.written += put_heading(&answer, heading) + answer.sent,
+                0 => {
+                    put_heading(&answer, heading);
+                    delivered.written += HEADING + answer.sent;
+                }
                 16 => {}
                 refused => {
                     (delivered.number, delivered.place) = (refused, answer.place);
@@ -60,8 +68,9 @@ impl<'a> SingleCalls<'a> {
             }
             delivered.messages += 1;
             delivered.taken += answer.taken;
-            made.taken.push(Taken { message: &message[..answer.taken], answer, left });
+            made.messages.push(Taken { message: &message[..answer.taken], answer, left });
         }
+        made.left = out.len() - made.delivered.written;
         made
     }
 
@@ -71,23 +80,24 @@ impl<'a> SingleCalls<'a> {
         let (spent, refused) = (ended == Delivered::SPENT, ended == Delivered::REFUSED);
         let (without_room, most) = (number == 12, messages == DELIVERY_MESSAGES);
         let ignored_without_room = |t: &Taken<'_>| t.answer.number == 16 && t.left == 0;
-        let hello = |t: &Taken<'_>| t.message == [0x01, 0x02, 0x00];
+        let hello = |t: &Taken<'_>| t.message == HELLO;
         let long_answer = |t: &Taken<'_>| t.answer.sent >= 1 << 14;
-        let other_hello = |t: &Taken<'_>| t.message[0] == 0x01 && !hello(t);
+        let other_hello = |t: &Taken<'_>| t.message[0] == HELLO[0] && !hello(t);
         [
             ("without input", spent && messages == 0),
             ("input spent", spent && messages > 0),
             ("input spent by 64 messages", spent && most),
-            ("after 64 messages", ended == Delivered::MOST),
+            ("after 64 messages", ended == Delivered::MAX_REACHED),
             ("refused first", refused && messages == 0),
             ("refused behind ignored", refused && messages > 0 && written == 0),
             ("refused behind done", refused && written > 0),
             ("no room first", without_room && messages == 0),
             ("no room behind done", without_room && written > 0),
-            ("ignored without room", self.taken.iter().any(ignored_without_room)),
-            ("hello before others", self.taken.iter().rev().skip(1).any(hello)),
-            ("long hello answer", self.taken.iter().any(long_answer)),
-            ("refused when closed", number == 3 && self.taken.last().is_some_and(other_hello)),
+            ("no room for a heading", without_room && (1..HEADING).contains(&self.left)),
+            ("ignored without room", self.messages.iter().any(ignored_without_room)),
+            ("hello before others", self.messages.iter().rev().skip(1).any(hello)),
+            ("long hello answer", self.messages.iter().any(long_answer)),
+            ("refused when closed", number == 3 && self.messages.last().is_some_and(other_hello)),
         ]
     }
 }
@@ -101,8 +111,7 @@ fn number_without_message<I: Implementation>(server: &mut Memory, connection: us
     }
 }
 
-fn put_heading(answer: &Answer, heading: &mut [u8]) -> usize {
+fn put_heading(answer: &Answer, heading: &mut [u8]) {
     heading[..2].copy_from_slice(&answer.recipients.to_be_bytes());
     heading[2..].copy_from_slice(&(answer.sent as u32).to_be_bytes());
-    HEADING
 }

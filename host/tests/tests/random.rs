@@ -55,7 +55,7 @@ fn faulty_delivery<const FAULT: usize>(input: &[u8], room: usize, answer: Delive
             Delivered { ended: Delivered::SPENT, ..Delivered::default() }
         }
         SIXTY_FOUR_BEFORE_SPENT if messages == DELIVERY_MESSAGES => {
-            Delivered { ended: Delivered::MOST, ..answer }
+            Delivered { ended: Delivered::MAX_REACHED, ..answer }
         }
         REFUSED_MESSAGE_COUNTED if refused => Delivered { messages: messages + 1, ..answer },
         PLACE_FROM_THE_INPUT if place > 0 => Delivered { place: place + taken, ..answer },

@@ -24,6 +24,8 @@ use std::time::{Duration, Instant};
 const MOST_UNREAD: usize = 128 * 1024;
 /// A writer that has to wait looks again so often.
 const PAUSE: Duration = Duration::from_micros(50);
+/// Updates of each writer, if nothing else is said.
+const UPDATES: usize = 256_000;
 /// A server that does not answer for so long has failed.
 const TIMEOUT: Duration = Duration::from_secs(20);
 
@@ -204,22 +206,22 @@ fn measure(program: &Path, load: Load) -> Result<f64, String> {
 fn run() -> Result<(), String> {
     let keys = ["server", "before", "writers", "readers", "burst", "bursts", "rounds"];
     let arguments = Arguments::read(&keys)?;
-    let load = Load {
-        writers: arguments.number("writers", 2)?,
-        readers: arguments.number("readers", 2)?,
-        burst: arguments.number("burst", 64)?,
-        bursts: arguments.number("bursts", 4000)?,
-    };
-    let Load { writers, readers, burst, .. } = load;
+    let (writers, readers) = (arguments.number("writers", 2)?, arguments.number("readers", 2)?);
     if writers == 0 || writers + readers < 2 || writers + readers > CONNECTIONS {
         return Err("1 to 16 writers, and 2 to 16 clients".into());
     }
+    let (burst, rounds) = (arguments.number("burst", 64)?, arguments.number("rounds", 5)?);
+    if burst == 0 || rounds == 0 {
+        return Err("a burst has an update, and there is a round".into());
+    }
+    let load =
+        Load { writers, readers, burst, bursts: arguments.number("bursts", UPDATES / burst)? };
     let beside = env::current_exe().map_err(|error| error.to_string())?;
     let beside = beside.with_file_name("nt2-server");
     let before = arguments.text("before").map(|before| ("before", PathBuf::from(before), 0.0));
     let now = ("now", arguments.text("server").map_or(beside, PathBuf::from), 0.0);
     let mut servers: Vec<_> = before.into_iter().chain([now]).collect();
-    for _ in 0..arguments.number("rounds", 5)? {
+    for _ in 0..rounds {
         for (_, program, best) in &mut servers {
             *best = measure(program, load)?.max(*best);
         }

@@ -142,16 +142,17 @@ impl Owner {
         loop {
             let delivery = self.table.deliver(connection, &bytes[all..], &mut self.output);
             let (ended, taken) = (delivery.ended, delivery.taken);
-            for connection in send(delivery, &self.clients) {
-                self.close(connection, Reason::NotReading);
+            for not_reading in send(delivery, &self.clients) {
+                self.close(not_reading, Reason::NotReading);
             }
             all += taken;
+            // By a hello for another revision; a client that does not read is gone already.
             if self.table.state(connection) == Some(State::Closed) {
                 self.close(connection, Reason::OtherRevision);
                 return all;
             }
             match ended {
-                Ended::Most => {}
+                Ended::MaxReached => {}
                 // The output is empty again, and has room for any message.
                 Ended::Refused(Refusal::Room) if taken > 0 => {}
                 Ended::Spent | Ended::Refused(Refusal::Incomplete) => return all,

@@ -15,6 +15,9 @@ use nt2_tests::random::{Random, clock_seed};
 use std::process::ExitCode;
 use std::time::{Duration, Instant};
 
+/// So many runs have to meet what a run can meet.
+const COVERING_RUNS: u64 = 10;
+
 fn run() -> Result<(), String> {
     let arguments = Arguments::read(&["seed", "runs", "calls", "seconds"])?;
     let seed = arguments.number("seed", clock_seed())?;
@@ -45,7 +48,7 @@ fn run() -> Result<(), String> {
     if made < runs {
         return Err(format!("only {made} of {runs} runs in time"));
     }
-    if hellos_delivered == 0 {
+    if runs >= COVERING_RUNS && hellos_delivered == 0 {
         return Err("no accepted hello in a delivery".into());
     }
     if compared.clients == 0 { Err("no clean client".into()) } else { Ok(()) }
