@@ -41,7 +41,8 @@ report mem c input out =
 abbrev refusedWith : ℕ → List ℕ
 refusedWith number = number ∷ 0 ∷ 0 ∷ 0 ∷ 0 ∷ 0 ∷ []
 
--- a hello, an assignment of `b`, an update of `a`, and an assignment of an unknown type, at place 4; 0 is keep alive
+-- a hello, an assignment of `b`, an update of `a`, an assignment of an unknown type, at place 4, and one whose name, at place 3, is not UTF-8;
+-- 0 is keep alive
 abbrev greet : List ℕ
 greet = 1 ∷ 2 ∷ 0 ∷ []
 
@@ -53,6 +54,9 @@ update = 0x11 ∷ 0 ∷ 0 ∷ 0 ∷ 2 ∷ 0 ∷ []
 
 abbrev badType : List ℕ
 badType = 0x10 ∷ 0 ∷ 1 ∷ 0x62 ∷ 9 ∷ []
+
+abbrev badName : List ℕ
+badName = 0x10 ∷ 0 ∷ 1 ∷ 255 ∷ []
 
 -- all goes through; the second message is refused; the second and the third are ignored
 abbrev four : List ℕ
@@ -103,6 +107,8 @@ record Computed : Type 0 where
   just-fits : report server 0 update (replicate 12 7) ≡ (0 ∷ 1 ∷ 1 ∷ 6 ∷ 12 ∷ 0 ∷ [])
   one-byte-short : (report server 0 update (replicate 11 7) ∷ report server 1 four (replicate 34 7) ∷ report server 0 update (replicate 5 7) ∷ []) ≡
       (refusedWith 12 ∷ (12 ∷ 0 ∷ 1 ∷ 3 ∷ 17 ∷ 0 ∷ []) ∷ refusedWith 12 ∷ [])
+  -- a message that is cut, and a name that is not UTF-8: room is looked at last
+  room-last : (report server 0 (take 5 update) [] ∷ report server 0 badName [] ∷ []) ≡ (refusedWith 1 ∷ (9 ∷ 0 ∷ 0 ∷ 0 ∷ 0 ∷ 3 ∷ []) ∷ [])
   -- "Ignored ones put nothing.": keep alive, and an update whose number is stored by then, with room for it and without
   ignored : (report server 0 twice (replicate 30 7) ∷ report server 0 twice (replicate 12 7) ∷ report server 1 (0 ∷ 0 ∷ []) [] ∷ []) ≡
       ((0 ∷ 1 ∷ 3 ∷ 13 ∷ 12 ∷ 0 ∷ []) ∷ (0 ∷ 1 ∷ 3 ∷ 13 ∷ 12 ∷ 0 ∷ []) ∷ (0 ∷ 1 ∷ 2 ∷ 2 ∷ 0 ∷ 0 ∷ []) ∷ [])
@@ -136,6 +142,7 @@ computed =
       cut = refl;
       just-fits = refl;
       one-byte-short = refl;
+      room-last = refl;
       ignored = refl;
       turned-away = refl;
       spent = refl;

@@ -25,7 +25,7 @@ use Rattle.protocol.specs.Judge.{Call, openConnection, leave, clientMess
 use Rattle.protocol.specs.Step.{ServerMemory, CallResult, refusal, execute, soundFor, callStep}
 use Rattle.protocol.specs.Kept.{SoundMemory}
 use Rattle.protocol.specs.Taken.{messageCall}
-use Rattle.protocol.specs.Refused.{Concerns, Refused, UnsoundTableRefused, UnsoundMarksRefused, TooHighRefused, ClosedRefused, OpenAgainRefused, EmptyRefused, KindRefused, GreetedHelloRefused, UngreetedRefused, UnknownIdRefused, FullRefused, RoomDecides, CallNeedsRoom, HelloNoRoom, AssignmentNoRoom, UpdateNoRoom, OtherRevisionNoRoom, CreateNoRoom, WriteNoRoom, HeldNameRefused, NoEntryRefused}
+use Rattle.protocol.specs.Refused.{Concerns, Refused, UnsoundTableRefused, UnsoundMarksRefused, TooHighRefused, ClosedRefused, OpenAgainRefused, EmptyRefused, KindRefused, GreetedHelloRefused, UngreetedRefused, UnknownIdRefused, FullRefused, RoomDecides, CallNeedsRoom, withoutRoom, RoomLast, HelloNoRoom, AssignmentNoRoom, UpdateNoRoom, OtherRevisionNoRoom, CreateNoRoom, WriteNoRoom, HeldNameRefused, NoEntryRefused}
 use Rattle.protocol.proofs.SoundnessLaws.{step-is}
 use Rattle.protocol.proofs.MessageLaws.{comesTo, connected, client-step}
 use Rattle.protocol.proofs.ChangeLaws.{held}
@@ -171,6 +171,37 @@ call-needs-room limit mem call room out = go (soundFor limit mem call) (judge li
         → RoomDecides mem out (pick b (execute mem room v) (refusal mem room unsound)) (pick b (execute mem out v) (refusal mem out unsound))
     go true v = unfold pick in executed-needs mem room out v
     go false v = unfold pick in λ e. no-need mem out _ _ refl e
+
+-- a call that sends is done, or refused with 12
+module _ (mem : ServerMemory) (room out : List ℕ) where
+  done-or-12 : (b : Bool) (x : CallResult) → x .number ≡ done → pick b x (refusal mem room outputTooShort) .number ≢ done
+      → pick b x (refusal mem room outputTooShort) .number ≢ outputTooShort → ⊥
+  unfolding pick
+  done-or-12 true x e d t = d e
+  done-or-12 false x e d t = t refl
+
+  executed-last : (v : Verdict) → execute mem room v .number ≢ done → execute mem room v .number ≢ outputTooShort
+      → execute mem out v ≡ withoutRoom mem out (execute mem room v)
+  unfolding execute
+  executed-last (refuse fault) d t = refl
+  executed-last (ignore taken) d t = refl
+  executed-last readDone d t = absurd (done-or-12 _ _ refl d t)
+  executed-last (openMark c) d t = absurd (done-or-12 _ _ refl d t)
+  executed-last (closeMark c) d t = absurd (done-or-12 _ _ refl d t)
+  executed-last (acceptHello c) d t = absurd (done-or-12 _ _ refl d t)
+  executed-last (unsupportedRevision c) d t = absurd (done-or-12 _ _ refl d t)
+  executed-last (storeNew new taken) d t = absurd (done-or-12 _ _ refl d t)
+  executed-last (storeUpdate id number value taken to) d t = absurd (done-or-12 _ _ refl d t)
+
+pub room-last : RoomLast
+unfolding callStep
+room-last limit mem call room out = go (soundFor limit mem call) (judge limit (entriesOf (mem .table)) (mem .marks) call)
+  where
+    go : (b : Bool) (v : Verdict) → pick b (execute mem room v) (refusal mem room unsound) .number ≢ done
+        → pick b (execute mem room v) (refusal mem room unsound) .number ≢ outputTooShort
+        → pick b (execute mem out v) (refusal mem out unsound) ≡ withoutRoom mem out (pick b (execute mem room v) (refusal mem room unsound))
+    go true v = unfold pick in executed-last mem room out v
+    go false v = unfold pick in λ _ _. refl
 
 pub hello-no-room : HelloNoRoom
 unfolding comesTo execute pick layout

@@ -117,6 +117,17 @@ CallNeedsRoom =
     → callStep limit mem (record { call = call; output = room }) .number ≡ done
     → RoomDecides mem out (callStep limit mem (record { call = call; output = room })) (callStep limit mem (record { call = call; output = out }))
 
+-- of a call that is ignored in some output, or refused by another number: it sends nothing, and comes to the same in every output
+abbrev pub withoutRoom : ServerMemory → (out : List ℕ) → CallResult → CallResult
+withoutRoom mem out r = record { number = r .number; taken = r .taken; sent = 0; recipients = 0; memory = mem; output = out }
+
+abbrev pub RoomLast : Type 0
+RoomLast =
+    (limit : ℕ) (mem : ServerMemory) (call : Call) (room out : List ℕ)
+    → callStep limit mem (record { call = call; output = room }) .number ≢ done
+    → callStep limit mem (record { call = call; output = room }) .number ≢ outputTooShort
+    → callStep limit mem (record { call = call; output = out }) ≡ withoutRoom mem out (callStep limit mem (record { call = call; output = room }))
+
 abbrev pub HelloNoRoom : Type 0
 HelloNoRoom =
     (limit : ℕ) (mem : ServerMemory) → SoundMemory limit mem → (c : ℕ) → c < connections → getD (mem .marks) c 0 ≡ open′
