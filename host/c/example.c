@@ -1,6 +1,7 @@
 /* Uses every call of nt2.h and checks its answers: the listing of the build description, the same
- * messages as a delivery, a client's copy that follows a server, single messages, and the places of
- * faults. Prints the listing, and ends with 1 at the first answer that is not as expected.
+ * messages as a delivery and as a line record, a client's copy that follows a server, single messages,
+ * and the places of faults. Prints the listing, and ends with 1 at the first answer that is not as
+ * expected.
  *
  * All that is lent is a heap block of its own, exactly as long as it is lent, so that valgrind sees
  * each access beyond it.
@@ -30,6 +31,9 @@ _Static_assert(offsetof(nt2_delivered, messages) == 8, "a delivery's messages");
 _Static_assert(offsetof(nt2_delivered, taken) == 16, "a delivery's bytes taken");
 _Static_assert(offsetof(nt2_delivered, written) == 24, "a delivery's bytes written");
 _Static_assert(offsetof(nt2_delivered, place) == 32, "the place of a delivery's fault");
+
+_Static_assert(sizeof(nt2_replayed) == 16, "what came of a line record");
+_Static_assert(offsetof(nt2_replayed, records) == 8, "a line record's records");
 
 _Static_assert(sizeof(nt2_scalar) == 16, "a scalar");
 _Static_assert(offsetof(nt2_scalar, found) == 1, "what a scalar's value is");
@@ -188,6 +192,13 @@ static nt2_delivered deliver(table t, size_t connection, const void *bytes, size
     return d;
 }
 
+static bool replays(table t, const void *bytes, size_t length, uint8_t number, size_t records) {
+    block record = new_input(bytes, length);
+    nt2_replayed r = nt2_replay(SERVER(t), LENT(record));
+    free_input(record, bytes);
+    return r.number == number && r.records == records;
+}
+
 static nt2_answer create(table t, const char *name, size_t name_length, uint8_t type_code,
                          const void *value, size_t value_length, block *out, size_t room) {
     block n = new_input(name, name_length), v = new_input(value, value_length);
@@ -336,6 +347,49 @@ static void deliveries(void) {
     rooms_of_a_delivery(t, &out);
     ends_of_a_delivery(t, &out);
     free(out.bytes);
+    free_table(t);
+}
+
+/* Connection 3 opens, says hello and makes an entry, the plant's own code writes its value, and half a
+ * message comes in. */
+static const uint8_t line_record[] = {
+    NT2_RECORD_OPENS, 3,
+    NT2_RECORD_CAME_IN + 8, 3, 0x01, 0x02, 0x00, 0x10, 0x00, 0x01, 0x61, 0x00,
+    NT2_RECORD_CAME_IN + 5, 3, 0xFF, 0xFF, 0x00, 0x00, 0x01,
+    NT2_RECORD_CAME_IN + 6, NT2_PLANT, 0x11, 0x00, 0x00, 0x00, 0x00, 0x00,
+    NT2_RECORD_CAME_IN + 2, 3, 0x11, 0x00};
+
+/* Its records' ends. */
+static const size_t record_ends[] = {0, 2, 12, 19, 27, 31};
+
+/* Whole, and cut in each place: memory has any contents, and the records before the cut are done. */
+static void line_records(void) {
+    table t = new_table();
+    for (size_t length = 0, done = 0; length <= sizeof line_record; length++) {
+        while (done < 5 && record_ends[done + 1] <= length)
+            done++;
+        bool whole = record_ends[done] == length;
+        CHECK(replays(t, line_record, length, whole ? NT2_DONE : NT2_INCOMPLETE, done));
+        CHECK(*t.count == (done >= 3) && t.marks[2] == NT2_CLOSED);
+        CHECK(t.marks[3] == (done >= 2 ? NT2_GREETED : done >= 1 ? NT2_OPEN : NT2_CLOSED));
+    }
+    CHECK(t.heads[0].number == 2 && t.bytes[0] == 'a' && t.bytes[NT2_NAME_ROOM] == 0);
+    free_table(t);
+}
+
+static void refused_line_records(void) {
+    table t = new_table();
+    CHECK(replays(t, "\x01\x05\x03\x00", 4, NT2_KIND, 1));
+    CHECK(replays(t, "\x01\x05\x40\x11", 4, NT2_KIND, 1));
+    CHECK(t.marks[5] == NT2_OPEN);
+    /* Refused openings, leavings and messages are no refusals of a record. */
+    CHECK(replays(t, "\x01\x05\x01\x10\x02\xFF\x02\x04\x40\x05\x07\x40\x10\x07", 14, NT2_DONE, 6));
+    CHECK(*t.count == 0 && t.marks[5] == NT2_CLOSED);
+    CHECK(nt2_open(SERVER(t), 5).number == NT2_DONE);
+    uint8_t *fewer = new_memory(NT2_CONNECTIONS - 1);
+    nt2_replayed r = nt2_replay(COPY(t), fewer, NT2_CONNECTIONS - 1, line_record, 2);
+    CHECK(r.number == NT2_UNSOUND && r.records == 0 && t.marks[5] == NT2_OPEN);
+    free(fewer);
     free_table(t);
 }
 
@@ -577,6 +631,8 @@ static void places_of_faults(void) {
 int main(void) {
     listing();
     deliveries();
+    line_records();
+    refused_line_records();
     server_and_copy();
     there_and_back();
     places_of_faults();

@@ -2,8 +2,8 @@
  *
  * The caller lends all memory. A slice is lent as pointer and length; the slices of one call do not
  * overlap, and no pointer is null. A call stays within them, keeps none of them and always returns.
- * A refusal (1 to 14) changes nothing; of a delivery the messages before the refused one stand. A
- * field that an answer does not use is 0 (false).
+ * A refusal (1 to 14) changes nothing; of a delivery the messages before the refused one stand, of a
+ * line record the records before it. A field that an answer does not use is 0 (false).
  */
 #ifndef NT2_H
 #define NT2_H
@@ -27,8 +27,9 @@ enum {
     NT2_LONGEST_ASSIGNMENT = 328,
     NT2_LONGEST_UPDATE = 261,
     NT2_LONGEST_HELLO_ANSWER = 20993,
-    NT2_HEADING = 6,           /* before what each message of a delivery sends */
-    NT2_DELIVERY_MESSAGES = 64 /* at most, in one delivery */
+    NT2_HEADING = 6,            /* before what each message of a delivery sends */
+    NT2_DELIVERY_MESSAGES = 64, /* at most, in one delivery */
+    NT2_RECORD_DATA = 64        /* bytes that came in, at most, in one record */
 };
 
 /* Numbers that a call answers with. */
@@ -76,6 +77,16 @@ enum { NT2_CLOSED = 0, NT2_OPEN = 1, NT2_GREETED = 2 };
 
 /* What a scalar's `found` says. */
 enum { NT2_FOUND_BOOLEAN = 0, NT2_FOUND_DOUBLE = 1, NT2_FOUND_NEITHER = 2 };
+
+/* Records of a line record: a kind byte, a connection byte and, of the last kind, the bytes. */
+enum {
+    NT2_RECORD_OPENS = 1,
+    NT2_RECORD_LEAVES = 2,
+    NT2_RECORD_CAME_IN = 63 /* plus how many bytes came in: 64 to 127 */
+};
+
+/* The connection of a record with what the plant's own code did. */
+enum { NT2_PLANT = 16 };
 
 /* How a delivery ended. */
 enum { NT2_ENDED_REFUSED = 0, NT2_ENDED_SPENT = 1, NT2_ENDED_MAX_REACHED = 2 };
@@ -125,6 +136,13 @@ typedef struct {
     size_t written;
     size_t place;
 } nt2_delivered;
+
+/* What came of a line record: 0 or a refusal, and the records that were done before the end or the
+ * refusal. */
+typedef struct {
+    uint8_t number;
+    size_t records;
+} nt2_replayed;
 
 /* An entry's value as a flag or a number. A NaN is answered as some NaN. */
 typedef struct {
@@ -193,6 +211,28 @@ nt2_delivered nt2_deliver(nt2_head *heads, size_t heads_length, uint8_t *bytes,
                           size_t bytes_length, uint16_t *count, uint8_t *marks,
                           size_t marks_length, size_t connection, const uint8_t *input,
                           size_t input_length, uint8_t *out, size_t out_length);
+
+/* Runs a line record again: makes a fresh start, so that any contents will do, and then the calls that
+ * the records stand for. Nothing is sent.
+ *
+ * The bytes that came in from a connection are gathered, and their messages taken as nt2_receive does,
+ * with room for whatever it sends. With NT2_INCOMPLETE they are held until more came in. With another
+ * refusal all that are held are dropped, and the connection leaves. Leaving, or a hello for another
+ * revision, drops them too. Bytes for a closed connection are dropped. An opening or leaving that is
+ * refused changes nothing.
+ *
+ * Bytes of NT2_PLANT are messages too: an assignment with ID 0xFFFF is a call of nt2_create, an update
+ * one of nt2_write; their sequence numbers are not looked at. Any other message is refused. With a
+ * refusal the bytes that are held are dropped.
+ *
+ * All this is no refusal of the run, nor are bytes held at the end. It is refused with NT2_UNSOUND if
+ * memory is too small, which changes nothing; with NT2_KIND at a record of an unknown kind, or with
+ * bytes for a connection above NT2_PLANT; with NT2_INCOMPLETE at a record that is cut. The fresh start
+ * and the records before that one stand.
+ */
+nt2_replayed nt2_replay(nt2_head *heads, size_t heads_length, uint8_t *bytes, size_t bytes_length,
+                        uint16_t *count, uint8_t *marks, size_t marks_length,
+                        const uint8_t *record, size_t record_length);
 
 /* Creates an entry for the plant's own code. */
 nt2_answer nt2_create(nt2_head *heads, size_t heads_length, uint8_t *bytes, size_t bytes_length,

@@ -1,5 +1,7 @@
 -- Answers: a refusal, an ignored message, and a call that is done.
 use Prim.Native.Nat.{ℕ}
+use mathlib.Core.Bool.{Bool, _||_}
+use lib.Dec.{eqb}
 use Rattle.field.specs.Answer.{done, ignored}
 use Rattle.field.specs.Place.{reportedPlace}
 use Rattle.field.specs.declared.Fault.{Fault}
@@ -19,3 +21,7 @@ ignoredAnswer taken = record { number = ignored; recipients = 0; taken = taken; 
 
 abbrev pub doneAnswer : (recipients taken sent : ℕ) → Answer
 doneAnswer recipients taken sent = record { number = done; recipients = recipients; taken = taken; sent = sent; place = 0 }
+
+-- done or ignored: the message is taken, and what stands behind it comes next
+abbrev pub goesOn : (number : ℕ) → Bool
+goesOn number = eqb number done || eqb number ignored

@@ -6,7 +6,7 @@ use field::OUTPUT_TOO_SHORT;
 use field::UNSOUND;
 ghost use mathlib.Core.Path.{_≡_};
 ghost use Rattle.field.specs.Answer.{outputTooShort, unsound};
-ghost use Rattle.answer.specs.Answers.{bareAnswer, refusedAnswer, ignoredAnswer, doneAnswer};
+ghost use Rattle.answer.specs.Answers.{bareAnswer, refusedAnswer, ignoredAnswer, doneAnswer, goesOn};
 
 // What a call answers: its number, the set of recipients, bytes taken and bytes sent, and the place of the field that failed.
 #[repr(C)]
@@ -73,4 +73,14 @@ pub fn done(recipients: u16, taken: usize, sent: usize) -> Answer
     a.taken = taken;
     a.sent = sent;
     a
+}
+
+// Done or ignored: the message is taken, and what stands behind it comes next.
+pub fn goes_on(number: u8) -> bool
+    ensures { λ r. ⌜ r ≡ goesOn number ⌝ }
+{
+    if number == DONE {
+        return true;
+    }
+    number == IGNORED
 }

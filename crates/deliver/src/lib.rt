@@ -1,14 +1,13 @@
 // A whole delivery at once: the messages of one connection, judged in order. The table is judged once.
 use field::CONNECTION_TOO_HIGH;
 use field::DONE;
-use field::IGNORED;
 use field::UNSOUND;
 use field::WRONG_STATE;
 ghost use mathlib.Core.Path.{_≡_};
 ghost use Rattle.table.specs.Table.{maxEntries};
 ghost use Rattle.protocol.specs.Kept.{SoundMemory};
 ghost use Rattle.protocol.specs.Lent.{lentServer};
-ghost use Rattle.delivery.specs.Delivery.{maxMessages, goesOn, deliverAtMost, deliver};
+ghost use Rattle.delivery.specs.Delivery.{maxMessages, deliverAtMost, deliver};
 ghost use Rattle.deliver.specs.Lent.{delivered, endedAnswer, refusedAnswer};
 
 // What a delivery answers: a refusal's number, why it ended, messages and bytes taken, bytes written, and the place in the refused message.
@@ -64,16 +63,6 @@ fn refused(number: u8, place: usize, messages: usize, taken: usize, written: usi
     d
 }
 
-// Done or ignored: the delivery goes on behind the message.
-fn goes_on(number: u8) -> bool
-    ensures { λ r. ⌜ r ≡ goesOn number ⌝ }
-{
-    if number == DONE {
-        return true;
-    }
-    number == IGNORED
-}
-
 // The messages of an input, on memory that is known to be sound.
 fn deliver_messages(
     heads: &mut [u16],
@@ -106,7 +95,7 @@ fn deliver_messages(
             &input[taken..],
             &mut out[written..],
         );
-        if !goes_on(a.number) {
+        if !answer::goes_on(a.number) {
             return refused(a.number, a.place, messages, taken, written);
         }
         messages += 1;

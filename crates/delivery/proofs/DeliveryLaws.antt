@@ -14,7 +14,8 @@ use Rattle.protocol.specs.Judge.{clientMessage}
 use Rattle.protocol.specs.Step.{ServerMemory, CallResult, callStep}
 use Rattle.protocol.specs.Place.{callPlace}
 use Rattle.protocol.specs.Kept.{SoundMemory}
-use Rattle.delivery.specs.Delivery.{DeliveryResult, maxMessages, atRefusal, inputSpent, maxReached, judgedCall, messageStep, goesOn, endsHere, refusedHere, ahead, deliverAtMost}
+use Rattle.answer.specs.Answers.{goesOn}
+use Rattle.delivery.specs.Delivery.{DeliveryResult, maxMessages, atRefusal, inputSpent, maxReached, judgedCall, messageStep, endsHere, refusedHere, ahead, deliverAtMost}
 use Rattle.delivery.proofs.MessageLaws.{StepFacts, step-facts, step-sound}
 
 -- ---- the first message

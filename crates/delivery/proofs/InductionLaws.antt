@@ -14,7 +14,8 @@ use Rattle.soundness.specs.Sound.{soundTable, soundMarks, connections, closed}
 use Rattle.protocol.specs.Judge.{clientMessage}
 use Rattle.protocol.specs.Step.{ServerMemory, LentCall, CallResult}
 use Rattle.protocol.specs.Place.{callPlace}
-use Rattle.delivery.specs.Delivery.{DeliveryResult, maxMessages, inputSpent, maxReached, judgedCall, messageStep, goesOn, endsHere, refusedHere, ahead, deliverAtMost, deliver, callsAtMost, callsOf}
+use Rattle.answer.specs.Answers.{goesOn}
+use Rattle.delivery.specs.Delivery.{DeliveryResult, maxMessages, inputSpent, maxReached, judgedCall, messageStep, endsHere, refusedHere, ahead, deliverAtMost, deliver, callsAtMost, callsOf}
 
 -- a property of at most so many messages, of a delivery and its calls
 module _ (limit c : ℕ) (P : (most : ℕ) → ServerMemory → (input out : List ℕ) → DeliveryResult → List LentCall → Type 0) where

@@ -20,7 +20,8 @@ use Rattle.protocol.proofs.AnswerLaws.{call-answered}
 use Rattle.protocol.proofs.ProgressLaws.{call-progress}
 use Rattle.protocol.proofs.RefusedLaws.{call-needs-room}
 use Rattle.protocol.proofs.SoundnessLaws.{sound-kept}
-use Rattle.delivery.specs.Delivery.{headingSize, headingBytes, judgedCall, withHeading, messageStep, goesOn}
+use Rattle.answer.specs.Answers.{goesOn}
+use Rattle.delivery.specs.Delivery.{headingSize, headingBytes, judgedCall, withHeading, messageStep}
 use Rattle.delivery.specs.Message.{MessageAnswered, MessageNeedsRoom}
 use Rattle.delivery.specs.Sent.{sentByCall, headed}
 

@@ -17,7 +17,8 @@ use Rattle.recipients.specs.Recipients.{testBit}
 use Rattle.protocol.specs.Step.{ServerMemory, LentCall, CallResult, callStep}
 use Rattle.protocol.specs.Run.{memoryAfterRun, addressedByCall, addressedBytes}
 use Rattle.convergence.proofs.RunLaws.{sound-run}
-use Rattle.delivery.specs.Delivery.{DeliveryResult, maxMessages, headingSize, headingBytes, atRefusal, inputSpent, maxReached, judgedCall, messageStep, goesOn, endsHere, refusedHere, ahead, deliver, callsOf}
+use Rattle.answer.specs.Answers.{goesOn}
+use Rattle.delivery.specs.Delivery.{DeliveryResult, maxMessages, headingSize, headingBytes, atRefusal, inputSpent, maxReached, judgedCall, messageStep, endsHere, refusedHere, ahead, deliver, callsOf}
 use Rattle.delivery.specs.Sent.{Sending, sentByCall, sentByCalls, addressedTo, SameAddressed, headed, behindHeadings, DeliveryIsCalls, Within, DeliveryWithin, DeliverySoundKept}
 use Rattle.delivery.proofs.MessageLaws.{length-heading, not-done, StepFacts, step-facts}
 use Rattle.delivery.proofs.InductionLaws.{by-messages, by-ready}

@@ -16,7 +16,8 @@ use Rattle.protocol.specs.Step.{ServerMemory, LentCall, CallResult, callStep}
 use Rattle.protocol.specs.Place.{callPlace}
 use Rattle.protocol.specs.Judge.{clientMessage}
 use Rattle.protocol.proofs.AnswerLaws.{call-answered}
-use Rattle.delivery.specs.Delivery.{DeliveryResult, maxMessages, inputSpent, maxReached, judgedCall, messageStep, goesOn, endsHere, refusedHere, ahead, deliverAtMost, deliver, callsAtMost, callsOf}
+use Rattle.answer.specs.Answers.{goesOn}
+use Rattle.delivery.specs.Delivery.{DeliveryResult, maxMessages, inputSpent, maxReached, judgedCall, messageStep, endsHere, refusedHere, ahead, deliverAtMost, deliver, callsAtMost, callsOf}
 use Rattle.delivery.specs.Sent.{sentByCall, headed}
 use Rattle.delivery.specs.Tells.{messagesIn, takenIn, numberIn, placeIn, Judged, EndedBy, refusal, spent, too-many, Tells, DeliveryTells, FirstRefused}
 use Rattle.delivery.proofs.MessageLaws.{StepFacts, step-facts}

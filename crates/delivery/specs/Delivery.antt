@@ -1,14 +1,15 @@
 -- "A whole delivery at once": the messages of one connection, judged in order, each by the step of a single call.
 use Prim.Native.Nat.{ℕ, zero, suc, _+_, _/_, _%_}
-use mathlib.Core.Bool.{Bool, _&&_, _||_}
+use mathlib.Core.Bool.{_&&_}
 use mathlib.Core.List.{List, [], _∷_, _++_}
 use lib.ListN.{take, drop, getD}
 use lib.Dec.{ltb, eqb}
-use Rattle.field.specs.Answer.{done, ignored, connectionTooHigh, wrongState, unsound}
+use Rattle.field.specs.Answer.{done, connectionTooHigh, wrongState, unsound}
 use Rattle.field.specs.Choice.{pick, demand}
 use Rattle.field.specs.Field.{demandBytes}
 use Rattle.field.specs.Octets.{encode16}
 use Rattle.field.specs.Place.{WithPlace}
+use Rattle.answer.specs.Answers.{goesOn}
 use Rattle.soundness.specs.Sound.{soundTable, soundMarks, connections, closed}
 use Rattle.protocol.specs.Judge.{clientMessage}
 use Rattle.protocol.specs.Step.{ServerMemory, LentCall, CallResult, callStep}
@@ -58,10 +59,6 @@ messageStep limit mem c input out = withHeading out (callStep limit mem (judgedC
 abbrev pub messageWithPlace : (limit : ℕ) → ServerMemory → (c : ℕ) (input out : List ℕ) → WithPlace CallResult
 messageWithPlace limit mem c input out =
     record { result = messageStep limit mem c input out; place = callPlace limit mem (clientMessage c input) }
-
--- done or ignored: the delivery goes on behind it
-abbrev pub goesOn : (number : ℕ) → Bool
-goesOn number = eqb number done || eqb number ignored
 
 -- ---- the messages of an input
 

@@ -12,7 +12,8 @@ use Rattle.protocol.specs.Step.{ServerMemory, LentCall, callStep}
 use Rattle.protocol.specs.Place.{callPlace}
 use Rattle.protocol.specs.Kept.{SoundMemory}
 use Rattle.protocol.specs.Taken.{messageCall}
-use Rattle.delivery.specs.Delivery.{DeliveryResult, maxMessages, atRefusal, inputSpent, maxReached, headingSize, goesOn, deliver, callsOf}
+use Rattle.answer.specs.Answers.{goesOn}
+use Rattle.delivery.specs.Delivery.{DeliveryResult, maxMessages, atRefusal, inputSpent, maxReached, headingSize, deliver, callsOf}
 use Rattle.delivery.specs.Sent.{sentByCall, headed}
 
 -- ---- of a list of calls

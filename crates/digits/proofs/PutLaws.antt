@@ -68,3 +68,25 @@ put-next {buffer} {text} {now} {more} {now′} {at} {end} {end′} p q =
 pub put-more : (buffer : List ℕ) (at : ℕ) (s now now′ : List ℕ) (end end′ i : ℕ) → i < length s → Put buffer at (take i s) now end → Put now end (getD s i 0 ∷ []) now′ end′
     → Put buffer at (take (i + 1) s) now′ end′
 put-more buffer at s now now′ end end′ i h p q = rw (add-one i, take-suc s i 0 h) (put-next p q)
+
+-- text ends within the buffer
+pub put-within : {buffer text now : List ℕ} {at end : ℕ} → Put buffer at text now end → end ≤ length now
+put-within p = omega (arith, p .ended, put-length p)
+
+-- ---- text whose last part is still to be put
+
+-- what puts the rest behind the text so far puts the whole, from a place of a buffer on
+pub record Leads (buffer : List ℕ) (at : ℕ) (whole text : List ℕ) (end : ℕ) (rest : List ℕ) : Type 0 where
+  pub leads : {now : List ℕ} {last : ℕ} → Put text end rest now last → Put buffer at whole now last
+
+pub leads-start : {buffer whole : List ℕ} {at : ℕ} → Leads buffer at whole buffer at whole
+leads-start = record { leads = λ p. p }
+
+-- one part more
+pub leads-next : {buffer whole text part rest text′ : List ℕ} {at end end′ : ℕ} → Leads buffer at whole text end (part ++ rest) → Put text end part text′ end′
+    → Leads buffer at whole text′ end′ rest
+leads-next l p = record { leads = λ q. l .leads (put-next p q) }
+
+-- nothing is left
+pub leads-end : {buffer whole text : List ℕ} {at end : ℕ} → Leads buffer at whole text end [] → end ≤ length text → Put buffer at whole text end
+leads-end {text = text} {end = end} l h = l .leads (put-nothing text end h)

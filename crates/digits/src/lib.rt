@@ -16,6 +16,16 @@ pub fn put(text: &mut [u8], at: usize, x: u8) -> usize
     at + 1
 }
 
+// Nothing: where the buffer ends before the place, it ends there.
+pub fn put_nothing(text: &mut [u8], at: usize) -> usize
+    ensures { λ r. ⌜ Put (now (text .entry)) at [] (now (text .exit)) r ⌝ }
+{
+    if text.len() <= at {
+        return text.len();
+    }
+    at
+}
+
 pub fn put_bytes(text: &mut [u8], at: usize, s: &[u8]) -> usize
     ensures { λ r. ⌜ Put (now (text .entry)) at (now (s .entry)) (now (text .exit)) r ⌝ }
 {
@@ -41,7 +51,7 @@ pub fn put_decimal(text: &mut [u8], at: usize, n: usize) -> usize
     put(text, end, 48 + (n % 10) as u8)
 }
 
-fn hex_digit(d: u16) -> u8
+pub fn hex_digit(d: u16) -> u8
     requires { ⌜ d < 16 ⌝ }
     ensures { λ r. ⌜ r ≡ hexDigit d ⌝ }
 {

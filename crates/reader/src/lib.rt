@@ -32,7 +32,7 @@ pub fn moved<'a>(r: Reader<'a>, at: usize) -> Reader<'a>
 // ---- what the thin functions call, beside the fields of a fixed width
 
 // The bytes from a place on: none past the end.
-fn rest<'a>(m: &'a [u8], at: usize) -> &'a [u8]
+pub fn rest<'a>(m: &'a [u8], at: usize) -> &'a [u8]
     ensures { λ r. ⌜ now r ≡ drop at (now (m .entry)) ⌝ }
 {
     if m.len() < at {

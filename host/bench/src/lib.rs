@@ -3,4 +3,5 @@
 #![forbid(unsafe_code)]
 
 pub mod measure;
+pub mod record;
 pub mod subject;

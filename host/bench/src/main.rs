@@ -7,8 +7,8 @@
 
 use bench::measure::{Effort, calibrate, fastest, time};
 use bench::subject::{
-    CALLS, DELIVER_UPDATES, RECEIVE_UPDATES, SIZES, Subject, TYPICAL, VALUES, WORST_CASE,
-    has_table, sizes,
+    CALLS, DELIVER_UPDATES, RECEIVE_UPDATES, REPLAY_ENTRIES, REPLAY_UPDATES, SIZES, Subject,
+    TYPICAL, VALUES, WORST_CASE, has_table, sizes,
 };
 use nt2_tests::arguments::Arguments;
 use nt2_tests::ending::status;
@@ -62,6 +62,10 @@ fn is_beyond(ratio: f64, goal: f64) -> bool {
     (100.0 * ratio).round() > 100.0 * goal
 }
 
+fn verdict(ratio: f64, goal: f64) -> &'static str {
+    if is_beyond(ratio, goal) { "missed" } else { "reached" }
+}
+
 /// What a row has beyond the goals.
 fn misses(name: &str, all: &[Times], growth: f64) -> Vec<String> {
     let slower = all.iter().zip(SIZES).filter(|(times, _)| is_beyond(ratio(**times), MOST_RATIO));
@@ -96,11 +100,19 @@ impl Delivery {
     }
 }
 
+/// Line records of 60 KB that make a table of 64 entries.
+struct LineRecords {
+    values: usize,
+    updates: Times,
+    entries: Times,
+}
+
 /// What was measured beside the rows.
 #[derive(Default)]
 struct Measured {
     hellos: Vec<Hello>,
     deliveries: Vec<Delivery>,
+    line_records: Vec<LineRecords>,
     beyond: Vec<String>,
 }
 
@@ -132,12 +144,15 @@ impl Measured {
         all
     }
 
-    /// Keeps what the rows of a set of values say of a delivery on the largest table.
-    fn keep_delivery(&mut self, values: usize, rows: &[[Times; SIZES.len()]]) {
+    /// Keeps what the rows of a set of values say of a delivery and of line records on the largest
+    /// table.
+    fn keep_largest(&mut self, values: usize, rows: &[[Times; SIZES.len()]]) {
         let largest = |name| {
             let call = CALLS.iter().position(|call| *call == name).expect("a row of its own");
             rows[call][SIZES.len() - 1]
         };
+        let (updates, entries) = (largest(REPLAY_UPDATES), largest(REPLAY_ENTRIES));
+        self.line_records.push(LineRecords { values, updates, entries });
         let (delivered, single) = (largest(DELIVER_UPDATES), largest(RECEIVE_UPDATES));
         let delivery = Delivery { values, delivered, single };
         let by_single_calls = delivery.by_single_calls();
@@ -169,12 +184,36 @@ impl Measured {
             );
         }
         for typical in self.deliveries.iter().filter(|delivery| delivery.values == TYPICAL) {
-            let verdict = |ratio, goal| if is_beyond(ratio, goal) { "missed" } else { "reached" };
             let by_single_calls = verdict(typical.by_single_calls(), MOST_DELIVERY);
             let by_reference = verdict(ratio(typical.delivered), MOST_RATIO);
             println!("\ngoals of a delivery, typical values:");
             println!("  at most {MOST_DELIVERY:.2} of single calls: {by_single_calls}");
             println!("  at most {MOST_RATIO:.2} of the reference's delivery: {by_reference}");
+        }
+    }
+
+    fn print_line_records(&self) {
+        println!("\nline records of 60 KB that make a table of 64 entries: updates, entries\n");
+        println!(
+            "{:<46} {:>10} {:>10} {:>7} {:>10} {:>10} {:>7}",
+            "values", "updates", "reference", "ratio", "entries", "reference", "ratio"
+        );
+        for LineRecords { values, updates, entries } in &self.line_records {
+            println!(
+                "{:<46} {:>10.1} {:>10.1} {:>7.2} {:>10.1} {:>10.1} {:>7.2}",
+                VALUES[*values],
+                updates.library,
+                updates.reference,
+                ratio(*updates),
+                entries.library,
+                entries.reference,
+                ratio(*entries)
+            );
+        }
+        println!("\ngoals of a line record, at most {MOST_RATIO:.2} of the reference's run:");
+        for LineRecords { values, updates, entries } in &self.line_records {
+            let said = |times| verdict(ratio(times), MOST_RATIO);
+            println!("  {}: {}, {}", VALUES[*values], said(*updates), said(*entries));
         }
     }
 
@@ -214,10 +253,11 @@ fn run() -> Result<(), String> {
         );
         let rows = (0..CALLS.len()).map(|call| measured.row(values, call, effort));
         let rows: Vec<_> = rows.collect();
-        measured.keep_delivery(values, &rows);
+        measured.keep_largest(values, &rows);
     }
     measured.print_hellos();
     measured.print_deliveries();
+    measured.print_line_records();
     let beyond = measured.beyond;
     println!(
         "\nbeyond the goals, {MOST_RATIO:.2}, {MOST_GROWTH:.2} and {MOST_DELIVERY:.2}: {}",

@@ -1,5 +1,6 @@
 //! A table with messages for it, on which each call can be repeated.
 
+use crate::record::LineRecord;
 use nt2_sys::{
     Answer, CONNECTIONS, Copied, DELIVERY_MESSAGES, Delivered, ENTRIES, ENTRY_ROOM, HEADING, Head,
     LONGEST_HELLO_ANSWER, LentTable, NAME_ROOM, TABLE_BYTES,
@@ -22,8 +23,12 @@ pub const TYPICAL: usize = 1;
 pub const DELIVER_UPDATES: &str = "deliver 64 updates";
 pub const RECEIVE_UPDATES: &str = "receive 64 updates";
 
+/// Line records of 60 KB: clients' updates, and clients that come, make entries and go.
+pub const REPLAY_UPDATES: &str = "replay 60 KB, updates";
+pub const REPLAY_ENTRIES: &str = "replay 60 KB, entries";
+
 /// The calls; those from `TABLE_CALLS` on have no table.
-pub const CALLS: [&str; 23] = [
+pub const CALLS: [&str; 25] = [
     "fresh",
     "open",
     "leave",
@@ -35,6 +40,8 @@ pub const CALLS: [&str; 23] = [
     "receive old update",
     DELIVER_UPDATES,
     RECEIVE_UPDATES,
+    REPLAY_UPDATES,
+    REPLAY_ENTRIES,
     "create",
     "write",
     "write equal",
@@ -48,7 +55,7 @@ pub const CALLS: [&str; 23] = [
     "decode assignment",
     "decode update",
 ];
-const TABLE_CALLS: usize = 19;
+const TABLE_CALLS: usize = 21;
 
 /// How many entries the tables have.
 pub const SIZES: [usize; 3] = [1, 16, 64];
@@ -63,7 +70,7 @@ pub fn sizes(call: usize) -> &'static [usize] {
 }
 
 /// The number that every entry has at first.
-const FIRST_NUMBER: u16 = 1;
+pub const FIRST_NUMBER: u16 = 1;
 
 /// The connection that calls; all others are greeted.
 const SENDER: usize = 3;
@@ -85,6 +92,8 @@ pub struct Subject {
     update: Vec<u8>,
     /// Updates of all entries in turn, each applied where the numbers are the first ones.
     updates: Vec<u8>,
+    /// Line records that make a table of as many entries: of updates, and of entries.
+    line_records: [LineRecord; 2],
     hello_sent: usize,
 }
 
@@ -180,6 +189,10 @@ impl Subject {
             copied_assignment: assignment(&name, type_code, id, &value),
             update: update(id, FIRST_NUMBER, &value),
             updates: updates(values, entries),
+            line_records: [
+                LineRecord::updates(values, entries),
+                LineRecord::entries(values, entries),
+            ],
             name,
             values: [value, other],
             version: 0,
@@ -271,6 +284,9 @@ impl Subject {
             }
             DELIVER_UPDATES | RECEIVE_UPDATES => {
                 self.take_updates::<I>(CALLS[call] == DELIVER_UPDATES, times);
+            }
+            REPLAY_UPDATES | REPLAY_ENTRIES => {
+                self.replay::<I>(usize::from(CALLS[call] == REPLAY_ENTRIES), times);
             }
             "create" => {
                 let (name, value) = (self.name.clone(), self.values[0].clone());
@@ -374,6 +390,21 @@ impl Subject {
                 }
             }
         }
+        self.marks[SENDER] = 1;
+    }
+
+    /// Runs one of the line records. Values and numbers are then those that it leaves.
+    fn replay<I: Implementation>(&mut self, which: usize, times: usize) {
+        let entries = self.count;
+        for _ in 0..times {
+            let Subject { heads, bytes, count, marks, line_records, .. } = self;
+            let LineRecord { bytes: record, records } = &line_records[which];
+            let table = LentTable { heads, bytes, count };
+            let replayed = black_box(I::replay(table, marks, black_box(record)));
+            assert_eq!((replayed.number, replayed.records), (0, *records));
+        }
+        assert_eq!(self.count, entries);
+        self.marks = [2; CONNECTIONS];
         self.marks[SENDER] = 1;
     }
 

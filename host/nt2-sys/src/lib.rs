@@ -29,6 +29,11 @@ pub const HEADING: usize = 6;
 /// Messages of a delivery at most.
 pub const DELIVERY_MESSAGES: usize = 64;
 
+/// Bytes that came in, at most, in one record of a line record.
+pub const RECORD_DATA: usize = 64;
+/// The connection of a record with what the plant's own code did.
+pub const PLANT: usize = CONNECTIONS;
+
 /// `nt2_head`: one entry head.
 #[repr(C)]
 #[derive(Clone, Copy, Debug, Default, PartialEq, Eq)]
@@ -92,6 +97,14 @@ pub fn headed(mut written: &[u8]) -> impl Iterator<Item = (u16, &[u8])> {
     })
 }
 
+/// `nt2_replayed`: what came of a line record, and how many of its records were done.
+#[repr(C)]
+#[derive(Clone, Copy, Debug, Default, PartialEq, Eq)]
+pub struct Replayed {
+    pub number: u8,
+    pub records: usize,
+}
+
 /// `nt2_scalar`: `found` is 0 for a Boolean, 1 for a Double, 2 for neither, and 0 with a refusal.
 #[repr(C)]
 #[derive(Clone, Copy, Debug, Default, PartialEq)]
@@ -142,7 +155,7 @@ pub use functions::*;
 
 #[cfg(feature = "link")]
 mod functions {
-    use crate::{Answer, Copied, Delivered, Fields, Head, Scalar};
+    use crate::{Answer, Copied, Delivered, Fields, Head, Replayed, Scalar};
 
     unsafe extern "C" {
         pub fn nt2_fresh(
@@ -206,6 +219,18 @@ mod functions {
             out: *mut u8,
             out_length: usize,
         ) -> Delivered;
+
+        pub fn nt2_replay(
+            heads: *mut Head,
+            heads_length: usize,
+            bytes: *mut u8,
+            bytes_length: usize,
+            count: *mut u16,
+            marks: *mut u8,
+            marks_length: usize,
+            record: *const u8,
+            record_length: usize,
+        ) -> Replayed;
 
         pub fn nt2_create(
             heads: *mut Head,
@@ -290,6 +315,7 @@ const _: () = {
     assert!(size_of::<Head>() == 8);
     assert!(size_of::<Answer>() == 32);
     assert!(size_of::<Delivered>() == 40);
+    assert!(size_of::<Replayed>() == 16);
     assert!(size_of::<Scalar>() == 16);
     assert!(size_of::<Copied>() == 24);
     assert!(size_of::<Fields>() == 48);

@@ -4,7 +4,7 @@ use crate::number::{
     ASSIGNMENT_ID, DONE, FULL, IGNORED, INCOMPLETE, KIND, NAME_HELD, NO_SUCH_CONNECTION,
     NOT_BOOLEAN, NOT_TEXT, ROOM, STATE, TOO_LONG, TYPE, UNKNOWN_ID, UNSOUND,
 };
-use nt2_sys::{Answer, Delivered, NAME_ROOM, headed};
+use nt2_sys::{Answer, Delivered, NAME_ROOM, Replayed, headed};
 use std::error::Error;
 use std::fmt;
 
@@ -246,6 +246,59 @@ impl<'a> Delivery<'a> {
     }
 }
 
+/// What came of a line record.
+#[derive(Clone, Copy, Debug, PartialEq, Eq)]
+#[must_use = "a line record may have been refused in its middle"]
+pub struct Replay {
+    /// Records that were done.
+    pub records: usize,
+    /// Why the next record was refused, if one was.
+    pub refused: Option<BadRecord>,
+}
+
+impl Replay {
+    pub(crate) fn of(replayed: Replayed) -> Self {
+        let Replayed { number, records } = replayed;
+        let refused = match number {
+            DONE => None,
+            INCOMPLETE => Some(BadRecord::Cut),
+            KIND => Some(BadRecord::Unknown),
+            _ => panic!("an owned table is large enough"),
+        };
+        Replay { records, refused }
+    }
+}
+
+/// Why a record of a line record was refused. Those before it are done.
+#[derive(Clone, Copy, Debug, PartialEq, Eq, Hash)]
+pub enum BadRecord {
+    /// It is cut.
+    Cut,
+    /// Its kind is unknown, or it has bytes for a connection above [`PLANT`](crate::PLANT).
+    Unknown,
+}
+
+impl BadRecord {
+    /// The refusal's number, 1 or 4.
+    pub fn number(self) -> u8 {
+        match self {
+            BadRecord::Cut => INCOMPLETE,
+            BadRecord::Unknown => KIND,
+        }
+    }
+}
+
+impl fmt::Display for BadRecord {
+    fn fmt(&self, f: &mut fmt::Formatter<'_>) -> fmt::Result {
+        f.write_str(match self {
+            BadRecord::Cut => "record is cut",
+            BadRecord::Unknown => "kind or connection of a record is unknown",
+        })
+    }
+}
+
+impl Error for BadRecord {}
+
 /// A local write that was accepted; one of an equal value is ignored.
 #[derive(Clone, Copy, Debug, PartialEq, Eq)]
 pub enum Written<'a> {
@@ -301,6 +354,19 @@ mod tests {
             assert_eq!(Refusal::of(number, None), Some(refusal).filter(|_| !has_place));
         }
         assert_eq!((Refusal::of(0, place), Refusal::of(15, place)), (None, None));
+    }
+
+    #[test]
+    fn line_records() {
+        let replay = |number| Replay::of(Replayed { number, records: 3 });
+        assert_eq!(replay(0), Replay { records: 3, refused: None });
+        for (bad, number, said) in [
+            (BadRecord::Cut, 1, "record is cut"),
+            (BadRecord::Unknown, 4, "kind or connection of a record is unknown"),
+        ] {
+            assert_eq!(replay(number), Replay { records: 3, refused: Some(bad) });
+            assert_eq!((bad.number(), bad.to_string()), (number, said.into()));
+        }
     }
 
     #[test]

@@ -1,9 +1,9 @@
 //! The calls over lent memory of any size, which judge it themselves.
 
 use nt2_sys::{
-    Answer, Copied, Delivered, Fields, Head, LentTable, Scalar, nt2_copy_fresh, nt2_copy_receive,
-    nt2_create, nt2_decode, nt2_deliver, nt2_encode, nt2_fresh, nt2_leave, nt2_open, nt2_read,
-    nt2_receive, nt2_write,
+    Answer, Copied, Delivered, Fields, Head, LentTable, Replayed, Scalar, nt2_copy_fresh,
+    nt2_copy_receive, nt2_create, nt2_decode, nt2_deliver, nt2_encode, nt2_fresh, nt2_leave,
+    nt2_open, nt2_read, nt2_receive, nt2_replay, nt2_write,
 };
 
 // SAFETY of all calls: each pointer stands beside the length of the slice that it comes from, no
@@ -104,6 +104,23 @@ pub fn deliver(
             input.len(),
             out.as_mut_ptr(),
             out.len(),
+        )
+    }
+}
+
+/// Makes a fresh start and runs a line record.
+pub fn replay(table: LentTable<'_>, marks: &mut [u8], record: &[u8]) -> Replayed {
+    unsafe {
+        nt2_replay(
+            table.heads.as_mut_ptr(),
+            table.heads.len(),
+            table.bytes.as_mut_ptr(),
+            table.bytes.len(),
+            table.count,
+            marks.as_mut_ptr(),
+            marks.len(),
+            record.as_ptr(),
+            record.len(),
         )
     }
 }

@@ -43,6 +43,25 @@
 //! # Ok::<(), nt2::Refusal>(())
 //! ```
 //!
+//! [`ServerTable::replay`] makes a table of what a line recorder wrote:
+//!
+//! ```
+//! use nt2::{BadRecord, ServerTable, State};
+//!
+//! let mut table = ServerTable::new();
+//! // Connection 3 opens, says hello and makes an entry, and the plant's own code writes its value.
+//! let record = b"\x01\x03\x42\x03\x01\x02\x00\x4C\x03\x10\x00\x04tare\x00\xFF\xFF\x00\x00\x01\
+//!     \x45\x10\x11\x00\x00\x00\x00\x00";
+//! let replay = table.replay(record);
+//! assert_eq!((replay.records, replay.refused), (4, None));
+//! assert_eq!(table.state(3), Some(State::Greeted));
+//! let entry = table.entry(0).unwrap();
+//! assert_eq!((entry.name, entry.number, entry.value), (&b"tare"[..], 2, &[0][..]));
+//! // Cut in its last record: the others are done.
+//! let replay = table.replay(&record[..record.len() - 1]);
+//! assert_eq!((replay.records, replay.refused), (3, Some(BadRecord::Cut)));
+//! ```
+//!
 //! A [`Refusal`] says what is wrong and, of a bad type, Boolean, text or length, where it stands:
 //!
 //! ```
@@ -64,13 +83,14 @@ mod number;
 mod server;
 
 pub use answers::{
-    Copied, Delivery, Ended, Place, Received, Recipients, Refusal, Scalar, Sent, Written,
+    BadRecord, Copied, Delivery, Ended, Place, Received, Recipients, Refusal, Replay, Scalar, Sent,
+    Written,
 };
 pub use copy::CopyTable;
 pub use memory::Entry;
 pub use message::{Message, Type, decode, encode};
 pub use nt2_sys::{
     CONNECTIONS, DELIVERY_MESSAGES, ENTRIES, HEADING, LONGEST_ASSIGNMENT, LONGEST_HELLO_ANSWER,
-    LONGEST_UPDATE, NAME_ROOM, VALUE_ROOM,
+    LONGEST_UPDATE, NAME_ROOM, PLANT, RECORD_DATA, VALUE_ROOM,
 };
 pub use server::{ServerTable, State};

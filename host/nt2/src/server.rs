@@ -1,7 +1,7 @@
 //! The server half.
 
 use crate::answers::{
-    Delivery, Place, Received, Recipients, Refusal, Scalar, Sent, Written, is_done,
+    Delivery, Place, Received, Recipients, Refusal, Replay, Scalar, Sent, Written, is_done,
 };
 use crate::lent;
 use crate::memory::{Entry, Memory};
@@ -36,6 +36,21 @@ impl ServerTable {
     pub fn fresh(&mut self) {
         let answer = lent::fresh(self.memory.lend(), &mut self.marks);
         assert_eq!(answer.number, DONE, "an owned table is large enough");
+    }
+
+    /// Starts afresh and runs a line record again: the calls that its records stand for, without what
+    /// they send. A record that is refused ends the run; those before it are done.
+    ///
+    /// A record is a kind byte and a connection byte. Kind 1: the connection opens. Kind 2: it leaves.
+    /// Kinds 64 to 127: behind them stand the kind minus 63 bytes, up to
+    /// [`RECORD_DATA`](crate::RECORD_DATA), that came in from the connection, or that the plant's own
+    /// code wrote, whose connection is [`PLANT`](crate::PLANT). The plant's assignments, with the ID
+    /// 0xFFFF, are run as [`create`](Self::create), its updates as [`write`](Self::write).
+    ///
+    /// A message, opening or leaving that is refused is no refusal of a record. The message's
+    /// connection leaves, and the bytes that came in behind it are dropped.
+    pub fn replay(&mut self, record: &[u8]) -> Replay {
+        Replay::of(lent::replay(self.memory.lend(), &mut self.marks, record))
     }
 
     /// Opens a closed connection.

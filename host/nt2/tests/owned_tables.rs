@@ -1,9 +1,9 @@
 //! The build description's example and a copy, by the owned tables.
 
 use nt2::{
-    Copied, CopyTable, DELIVERY_MESSAGES, Delivery, Ended, HEADING, LONGEST_HELLO_ANSWER, Message,
-    Place, Received, Recipients, Refusal, Scalar, ServerTable, State, Type, Written, decode,
-    encode,
+    BadRecord, CONNECTIONS, Copied, CopyTable, DELIVERY_MESSAGES, Delivery, Ended, HEADING,
+    LONGEST_ASSIGNMENT, LONGEST_HELLO_ANSWER, Message, PLANT, Place, RECORD_DATA, Received,
+    Recipients, Refusal, Replay, Scalar, ServerTable, State, Type, Written, decode, encode,
 };
 
 const STREAM: [u8; 26] = [
@@ -113,6 +113,153 @@ fn delivery_of_a_connection_that_is_closed() {
     let other = table.deliver(0, &[0x01, 0x03, 0x00, 0x00], &mut out);
     assert_eq!((other.ended, other.taken), (Ended::Refused(Refusal::State), 3));
     assert_eq!(sent(other), [(1, &[0x02, 0x02, 0x00][..])]);
+}
+
+/// Bytes that came in from a connection, as records.
+fn came_in(connection: usize, bytes: &[u8]) -> Vec<u8> {
+    let record = |bytes: &[u8]| [&[63 + bytes.len() as u8, connection as u8], bytes].concat();
+    bytes.chunks(RECORD_DATA).flat_map(record).collect()
+}
+
+fn opens(connection: usize) -> Vec<u8> {
+    vec![1, connection as u8]
+}
+
+fn leaves(connection: usize) -> Vec<u8> {
+    vec![2, connection as u8]
+}
+
+/// A line record that is run to its end.
+fn done(records: usize) -> Replay {
+    Replay { records, refused: None }
+}
+
+#[test]
+fn line_record_of_the_listing_example() {
+    let mut table = ServerTable::new();
+    // All at once, and byte for byte.
+    let replay = table.replay(&[opens(0), came_in(0, &STREAM)].concat());
+    assert_eq!(replay, done(2));
+    let entry = table.entry(0).map(|entry| (entry.name.to_vec(), entry.number));
+    assert_eq!(entry, Some((b"a".to_vec(), 2)));
+    assert_eq!((table.count(), table.state(0)), (1, Some(State::Greeted)));
+    let bytes = STREAM.iter().flat_map(|&byte| came_in(0, &[byte])).collect();
+    assert_eq!(table.replay(&[opens(0), bytes].concat()), done(1 + STREAM.len()));
+    assert_eq!(entry, table.entry(0).map(|entry| (entry.name.to_vec(), entry.number)));
+}
+
+#[test]
+fn line_record_starts_afresh() {
+    let mut table = opened();
+    table.create(b"n", Type::Boolean, &[1], &mut [0; 10]).unwrap();
+    assert_eq!(table.replay(&[]), done(0));
+    assert_eq!((table.count(), table.state(0)), (0, Some(State::Closed)));
+}
+
+#[test]
+fn line_record_with_the_plants_own_code() {
+    let mut table = ServerTable::new();
+    let create = b"\x10\0\x04tare\0\xFF\xFF\0\0\x01";
+    let write = b"\x11\0\0\x12\x34\0";
+    let record = [
+        came_in(PLANT, create),
+        came_in(PLANT, write),
+        // Equal, so ignored.
+        came_in(PLANT, write),
+        // The name is held, so what stands behind is dropped; and a hello is not for the plant.
+        came_in(PLANT, &[&create[..], write].concat()),
+        came_in(PLANT, &STREAM[..3]),
+        // Refused, and no one's leaving.
+        leaves(PLANT),
+        came_in(PLANT, &[0x11, 0, 0, 0, 0, 1]),
+    ];
+    assert_eq!(table.replay(&record.concat()), done(7));
+    assert_eq!(table.read(0), Ok(Scalar::Boolean(true)));
+    assert_eq!((table.count(), table.entry(0).unwrap().number), (1, 3));
+}
+
+#[test]
+fn line_record_with_messages_that_are_refused() {
+    let mut table = ServerTable::new();
+    let hello = &STREAM[..3];
+    let record = [
+        opens(3),
+        came_in(3, hello),
+        // A kind that there is not: the entry behind it is not made, and the connection leaves.
+        came_in(3, &[&[0x07], &STREAM[3..13]].concat()),
+        came_in(3, hello),
+        opens(3),
+        opens(3),
+        // Half a hello is dropped when the connection leaves.
+        came_in(3, &hello[..2]),
+        leaves(3),
+        leaves(3),
+        opens(3),
+        came_in(3, &[0x01, 0x03, 0x00, 0x00]),
+        opens(4),
+        came_in(4, hello),
+        opens(CONNECTIONS),
+    ];
+    assert_eq!(table.replay(&record.concat()), done(14));
+    let states = (0..CONNECTIONS).filter(|&c| table.state(c) != Some(State::Closed));
+    assert_eq!((table.count(), states.collect::<Vec<_>>()), (0, vec![4]));
+}
+
+#[test]
+fn line_record_with_bytes_that_are_dropped() {
+    let mut table = ServerTable::new();
+    let hello = &STREAM[..3];
+    // What comes in while the connection is closed is not held.
+    let record = [came_in(3, &hello[..2]), opens(3), came_in(3, &hello[2..])];
+    assert_eq!(table.replay(&record.concat()), done(3));
+    assert_eq!(table.state(3), Some(State::Open));
+    // A record that is cut gives nothing, though a whole message is there.
+    let cut = [opens(3), vec![63 + 4, 3], hello.to_vec()].concat();
+    assert_eq!(table.replay(&cut), Replay { records: 1, refused: Some(BadRecord::Cut) });
+    assert_eq!(table.state(3), Some(State::Open));
+}
+
+/// An assignment of a String Array that the first of two elements fills, and a byte more.
+fn longest_incomplete() -> Vec<u8> {
+    let name = [&[0x10, 0x00, 0x40][..], &[b'n'; 64]].concat();
+    let fields = [0x12, 0xFF, 0xFF, 0x00, 0x00, 0x02, 0x00, 0xFD];
+    [&name, &fields[..], &[b'v'; 253], &[0x00]].concat()
+}
+
+#[test]
+fn line_record_with_the_longest_message_that_is_not_complete() {
+    let mut table = ServerTable::new();
+    let message = longest_incomplete();
+    assert_eq!(message.len(), LONGEST_ASSIGNMENT + 1);
+    let opens_and_says_hello = [opens(0), came_in(0, &STREAM[..3])].concat();
+    for (bytes, state) in [(vec![], State::Greeted), (vec![0x00], State::Closed)] {
+        // All other bytes come in between.
+        let between = came_in(PLANT, &message);
+        let record = [&opens_and_says_hello[..], &came_in(0, &message), &between];
+        let record = [record.concat(), came_in(0, &bytes)].concat();
+        assert_eq!(table.replay(&record).refused, None);
+        assert_eq!((table.count(), table.state(0)), (0, Some(state)));
+    }
+}
+
+#[test]
+fn line_record_ends_at_a_refusal_and_what_came_before_stands() {
+    let mut table = ServerTable::new();
+    let good = [opens(5), came_in(5, &STREAM[..3])].concat();
+    for (bad, refused) in [
+        (&[0][..], BadRecord::Unknown),
+        (&[63, 5], BadRecord::Unknown),
+        (&[128, 5], BadRecord::Unknown),
+        (&[64, 17], BadRecord::Unknown),
+        (&[64], BadRecord::Cut),
+        (&[64, 16], BadRecord::Cut),
+        (&[65, 5, 0], BadRecord::Cut),
+        (&[1], BadRecord::Cut),
+    ] {
+        let replay = table.replay(&[&good[..], bad].concat());
+        assert_eq!(replay, Replay { records: 2, refused: Some(refused) }, "{bad:?}");
+        assert_eq!(table.state(5), Some(State::Greeted));
+    }
 }
 
 #[test]

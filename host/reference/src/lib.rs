@@ -6,11 +6,16 @@
 #![no_std]
 #![forbid(unsafe_code)]
 
+extern crate alloc;
+
+mod output;
+mod replay;
 mod server;
 mod table;
 mod wire;
 
 use nt2_sys::{Answer, Copied, Fields, LentTable, Scalar};
+pub use replay::replay;
 pub use server::{create, deliver, fresh, leave, open, receive, write};
 use table::Table;
 use wire::{

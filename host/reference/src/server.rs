@@ -1,5 +1,6 @@
 //! The server half: connections, clients' messages and local calls.
 
+use crate::output::Output;
 use crate::table::Table;
 use crate::wire::{
     ASSIGNMENT, Fault, HELLO, HELLO_COMPLETE, Judged, KEEP_ALIVE, NO_ID, REVISION, Reader, Refusal,
@@ -23,42 +24,26 @@ fn passes(stored: u16, received: u16) -> bool {
     (1..HALF).contains(&received.wrapping_sub(stored))
 }
 
-struct Server<'a> {
-    table: Table<'a>,
+pub struct Server<'a> {
+    pub table: Table<'a>,
     marks: &'a mut [u8; CONNECTIONS],
 }
 
 /// A fresh start: the count is 0 and all connections are closed, other memory stays.
 pub fn fresh(table: LentTable<'_>, marks: &mut [u8]) -> Answer {
-    answer(Server::large_enough(table, marks).map(|mut server| {
-        server.table.clear();
-        server.marks.fill(CLOSED);
-        Answer::default()
-    }))
+    answer(Server::fresh(table, marks).map(|_| Answer::default()))
 }
 
 /// Opens a closed connection.
 pub fn open(table: LentTable<'_>, marks: &mut [u8], connection: usize) -> Answer {
-    answer(Server::sound(table, marks).and_then(|server| {
-        let mark = server.marks.get_mut(connection).ok_or(Refusal::NoSuchConnection)?;
-        if *mark != CLOSED {
-            return Err(Refusal::State.into());
-        }
-        *mark = OPEN;
-        Ok(Answer::default())
-    }))
+    let opened = Server::sound(table, marks).and_then(|mut server| server.open(connection));
+    answer(opened.map(|()| Answer::default()))
 }
 
 /// Closes a connection that is open or greeted.
 pub fn leave(table: LentTable<'_>, marks: &mut [u8], connection: usize) -> Answer {
-    answer(Server::sound(table, marks).and_then(|server| {
-        let mark = server.marks.get_mut(connection).ok_or(Refusal::NoSuchConnection)?;
-        if *mark == CLOSED {
-            return Err(Refusal::State.into());
-        }
-        *mark = CLOSED;
-        Ok(Answer::default())
-    }))
+    let left = Server::sound(table, marks).and_then(|mut server| server.leave(connection));
+    answer(left.map(|()| Answer::default()))
 }
 
 /// Takes one message of a client.
@@ -103,10 +88,7 @@ pub fn create(
     answer(Server::sound(table, marks).and_then(|mut server| {
         check_name(name)?;
         check_value(Type::given(type_code)?, value)?;
-        if server.table.find(name).is_some() {
-            return Err(Refusal::NameHeld.into());
-        }
-        server.assign(name, type_code, value, out)
+        server.create(name, type_code, value, out)
     }))
 }
 
@@ -122,19 +104,18 @@ pub fn write(
         let i = server.table.held(id)?;
         let kind = server.table.kind(i)?;
         check_value(kind, value)?;
-        if equal_values(kind, server.table.value(i), value) {
-            return Ok(Answer { number: IGNORED, ..Answer::default() });
-        }
-        let number = server.table.number(i).wrapping_add(1);
-        let sent = server.update(i, number, value, out)?;
-        Ok(Answer { recipients: server.greeted(), sent, ..Answer::default() })
+        server.write(i, kind, value, out)
     }))
 }
 
 impl<'a> Server<'a> {
-    fn large_enough(table: LentTable<'a>, marks: &'a mut [u8]) -> Judged<Self> {
-        let marks = marks.first_chunk_mut().ok_or(Refusal::Unsound)?;
-        Ok(Server { table: Table::large_enough(table)?, marks })
+    /// The server after its fresh start, on memory that is large enough.
+    pub fn fresh(table: LentTable<'a>, marks: &'a mut [u8]) -> Judged<Self> {
+        let marks: &mut [u8; CONNECTIONS] = marks.first_chunk_mut().ok_or(Refusal::Unsound)?;
+        let mut table = Table::large_enough(table)?;
+        table.clear();
+        marks.fill(CLOSED);
+        Ok(Server { table, marks })
     }
 
     fn sound(table: LentTable<'a>, marks: &'a mut [u8]) -> Judged<Self> {
@@ -151,6 +132,29 @@ impl<'a> Server<'a> {
             .iter()
             .enumerate()
             .fold(0, |set, (c, &mark)| set | u16::from(mark == GREETED) << c)
+    }
+
+    pub fn open(&mut self, connection: usize) -> Judged<()> {
+        let mark = self.marks.get_mut(connection).ok_or(Refusal::NoSuchConnection)?;
+        if *mark != CLOSED {
+            return Err(Refusal::State.into());
+        }
+        *mark = OPEN;
+        Ok(())
+    }
+
+    pub fn leave(&mut self, connection: usize) -> Judged<()> {
+        let mark = self.marks.get_mut(connection).ok_or(Refusal::NoSuchConnection)?;
+        if *mark == CLOSED {
+            return Err(Refusal::State.into());
+        }
+        *mark = CLOSED;
+        Ok(())
+    }
+
+    /// Whether one of the connections is closed.
+    pub fn is_closed(&self, connection: usize) -> bool {
+        self.marks[connection] == CLOSED
     }
 
     /// The mark of a connection that is not closed.
@@ -189,7 +193,12 @@ impl<'a> Server<'a> {
         Ok(Delivered::SPENT)
     }
 
-    fn receive(&mut self, connection: usize, message: &[u8], out: &mut [u8]) -> Judged<Answer> {
+    pub fn receive(
+        &mut self,
+        connection: usize,
+        message: &[u8],
+        out: &mut (impl Output + ?Sized),
+    ) -> Judged<Answer> {
         let mark = self.mark(connection)?;
         let mut reader = Reader::new(message);
         let kind = reader.u8()?;
@@ -207,35 +216,40 @@ impl<'a> Server<'a> {
         &mut self,
         connection: usize,
         mut reader: Reader<'_>,
-        out: &mut [u8],
+        out: &mut (impl Output + ?Sized),
     ) -> Judged<Answer> {
         let (mark, sent) = if reader.u16()? == REVISION {
             (GREETED, self.write_entries(out)?)
-        } else if out.len() < 3 {
-            return Err(Refusal::Room.into());
         } else {
-            (CLOSED, write_revision(UNSUPPORTED, REVISION, out))
+            out.demand(3)?;
+            out.write(|out| write_revision(UNSUPPORTED, REVISION, out));
+            (CLOSED, 3)
         };
         self.marks[connection] = mark;
         Ok(Answer { recipients: 1 << connection, taken: reader.at, sent, ..Answer::default() })
     }
 
     /// One assignment for each entry in rising ID, then the hello's end.
-    fn write_entries(&self, out: &mut [u8]) -> Judged<usize> {
+    fn write_entries(&self, out: &mut (impl Output + ?Sized)) -> Judged<usize> {
         let table = &self.table;
         let length: usize = (0..table.count()).map(|i| table.assignment(i).length()).sum();
-        if out.len() < length + 1 {
-            return Err(Refusal::Room.into());
-        }
-        let mut end = 0;
-        for i in 0..table.count() {
-            end += table.assignment(i).write(&mut out[end..]);
-        }
-        out[end] = HELLO_COMPLETE;
-        Ok(end + 1)
+        out.demand(length + 1)?;
+        out.write(|out| {
+            let mut end = 0;
+            for i in 0..table.count() {
+                end += table.assignment(i).write(&mut out[end..]);
+            }
+            out[end] = HELLO_COMPLETE;
+            end + 1
+        });
+        Ok(length + 1)
     }
 
-    fn assignment(&mut self, mut reader: Reader<'_>, out: &mut [u8]) -> Judged<Answer> {
+    fn assignment(
+        &mut self,
+        mut reader: Reader<'_>,
+        out: &mut (impl Output + ?Sized),
+    ) -> Judged<Answer> {
         let name = reader.name()?;
         let (type_code, kind) = reader.value_type()?;
         if reader.u16()? != NO_ID {
@@ -256,17 +270,45 @@ impl<'a> Server<'a> {
         name: &[u8],
         type_code: u8,
         value: &[u8],
-        out: &mut [u8],
+        out: &mut (impl Output + ?Sized),
     ) -> Judged<Answer> {
         if self.table.is_full() {
             return Err(Refusal::Full.into());
         }
-        if out.len() < 8 + name.len() + value.len() {
-            return Err(Refusal::Room.into());
-        }
-        let i = self.table.count();
+        let (i, sent) = (self.table.count(), 8 + name.len() + value.len());
+        out.demand(sent)?;
         self.table.append(name, type_code, START, value);
-        let sent = self.table.assignment(i).write(out);
+        out.write(|out| self.table.assignment(i).write(out));
+        Ok(Answer { recipients: self.greeted(), sent, ..Answer::default() })
+    }
+
+    /// Creates an entry of a name, type and value that obey the build description.
+    pub fn create(
+        &mut self,
+        name: &[u8],
+        type_code: u8,
+        value: &[u8],
+        out: &mut (impl Output + ?Sized),
+    ) -> Judged<Answer> {
+        if self.table.find(name).is_some() {
+            return Err(Refusal::NameHeld.into());
+        }
+        self.assign(name, type_code, value, out)
+    }
+
+    /// Writes a value of its type to entry i.
+    pub fn write(
+        &mut self,
+        i: usize,
+        kind: Type,
+        value: &[u8],
+        out: &mut (impl Output + ?Sized),
+    ) -> Judged<Answer> {
+        if equal_values(kind, self.table.value(i), value) {
+            return Ok(Answer { number: IGNORED, ..Answer::default() });
+        }
+        let number = self.table.number(i).wrapping_add(1);
+        let sent = self.update(i, number, value, out)?;
         Ok(Answer { recipients: self.greeted(), sent, ..Answer::default() })
     }
 
@@ -274,7 +316,7 @@ impl<'a> Server<'a> {
         &mut self,
         connection: usize,
         mut reader: Reader<'_>,
-        out: &mut [u8],
+        out: &mut (impl Output + ?Sized),
     ) -> Judged<Answer> {
         let i = self.table.held(reader.u16()?)?;
         let number = reader.u16()?;
@@ -289,12 +331,18 @@ impl<'a> Server<'a> {
     }
 
     /// Stores number and value of entry i and writes the update.
-    fn update(&mut self, i: usize, number: u16, value: &[u8], out: &mut [u8]) -> Judged<usize> {
-        if out.len() < 5 + value.len() {
-            return Err(Refusal::Room.into());
-        }
+    fn update(
+        &mut self,
+        i: usize,
+        number: u16,
+        value: &[u8],
+        out: &mut (impl Output + ?Sized),
+    ) -> Judged<usize> {
+        let sent = 5 + value.len();
+        out.demand(sent)?;
         self.table.store(i, number, value);
-        Ok(write_update(i as u16, number, value, out))
+        out.write(|out| write_update(i as u16, number, value, out));
+        Ok(sent)
     }
 }
 

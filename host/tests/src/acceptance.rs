@@ -1,12 +1,13 @@
-//! Replays the acceptance cases, format nt2-cases-1 (`cases/FORMAT.md`).
+//! Runs the acceptance cases, format nt2-cases-1 (`cases/FORMAT.md`).
 
 use crate::call::{Call, Hex, Outcome};
 use crate::convergence::Clients;
 use crate::implementation::Implementation;
 use crate::json::Json;
+use crate::line_record::ByHand;
 use crate::memory::{Guarded, Memory};
 use nt2_sys::{
-    Answer, CONNECTIONS, Copied, Delivered, ENTRIES, Fields, Head, LONGEST_HELLO_ANSWER,
+    Answer, CONNECTIONS, Copied, Delivered, ENTRIES, Fields, Head, LONGEST_HELLO_ANSWER, Replayed,
     TABLE_BYTES,
 };
 use std::fmt::Write;
@@ -14,12 +15,13 @@ use std::fs;
 use std::path::{Path, PathBuf};
 
 /// The files of cases, with the number of cases in each.
-pub const FILES: [(&str, usize); 8] = [
+pub const FILES: [(&str, usize); 9] = [
     ("client.json", 2527),
     ("copy.json", 755),
     ("deliver.json", 111),
     ("listing.json", 63),
     ("local.json", 846),
+    ("replay.json", 86),
     ("runs.json", 130),
     ("unsound.json", 1321),
     ("writer.json", 1960),
@@ -35,15 +37,15 @@ pub fn folder() -> PathBuf {
     Path::new(env!("CARGO_MANIFEST_DIR")).join("../cases")
 }
 
-/// What came of a file: the cases replayed, and a line for each that failed.
+/// What came of a file: its cases, and a line for each that failed.
 #[derive(Debug)]
-pub struct Replayed {
+pub struct FileRun {
     pub cases: usize,
     pub failures: Vec<String>,
 }
 
-/// Replays all cases of a file.
-pub fn replay<I: Implementation>(folder: &Path, file: &str) -> Checked<Replayed> {
+/// Runs all cases of a file.
+pub fn run_file<I: Implementation>(folder: &Path, file: &str) -> Checked<FileRun> {
     let text = fs::read_to_string(folder.join(file)).map_err(|e| format!("{file}: {e}"))?;
     let json = Json::parse(&text).map_err(|e| format!("{file}: {e}"))?;
     if member(&json, "format")?.text()? != "nt2-cases-1" {
@@ -56,7 +58,7 @@ pub fn replay<I: Implementation>(folder: &Path, file: &str) -> Checked<Replayed>
         let failure = check::<I>(&memories, case).err()?;
         Some(format!("{file}, case {place}: {failure}"))
     });
-    Ok(Replayed { cases: cases.len(), failures: failures.collect() })
+    Ok(FileRun { cases: cases.len(), failures: failures.collect() })
 }
 
 fn member<'a>(json: &'a Json, key: &str) -> Checked<&'a Json> {
@@ -173,6 +175,9 @@ fn check_call<I: Implementation>(memories: &[Memory], case: &Json, name: &str) -
 
     match outcome {
         Outcome::Delivered(delivered) => check_delivered(case, &call, delivered)?,
+        Outcome::Replayed(replayed) => {
+            check_replayed::<I>(case, &before, replayed)?;
+        }
         _ => check_outcome(case, &call, outcome)?,
     }
     check_output(case, outcome.written(), &out)?;
@@ -195,6 +200,7 @@ fn case_call(case: &Json, name: &str) -> Checked<Call> {
         "leave" => Call::Leave { connection: number(case, "n")? },
         "msg" => Call::Receive { connection: number(case, "n")?, message: hex(case, "i")? },
         "deliver" => Call::Deliver { connection: number(case, "n")?, input: hex(case, "i")? },
+        "replay" => Call::Replay { record: hex(case, "i")? },
         "create" => Call::Create {
             name: hex(case, "name")?,
             type_code: number(case, "t")?,
@@ -246,7 +252,7 @@ fn check_outcome(case: &Json, call: &Call, outcome: Outcome) -> Checked {
             (fields.number, fields.taken, fields.place) == (number, taken, place)
                 && fields_match(case, fields, &bytes.0)?
         }
-        (Outcome::Fields(_) | Outcome::Delivered(_), _) => false,
+        (Outcome::Fields(_) | Outcome::Delivered(_) | Outcome::Replayed(_), _) => false,
     };
     if as_expected {
         Ok(())
@@ -278,6 +284,27 @@ fn check_delivered(case: &Json, call: &Call, delivered: Delivered) -> Checked {
         Ok(())
     } else {
         Err(format!("{call:?} answers {delivered:?}, not {expected:?}"))
+    }
+}
+
+/// A line record with a case's [number, records, calls], run at once and by hand.
+fn check_replayed<I: Implementation>(case: &Json, before: &Memory, replayed: Replayed) -> Checked {
+    let [number, records, calls] = member(case, "x")?.list()? else {
+        return Err("a line record has three fields".into());
+    };
+    let expected = Replayed { number: number.number()?, records: records.number()? };
+    let by_hand = ByHand::run::<I>(before.clone(), &bytes(case, "i")?);
+    let (calls, made) = (calls.number::<usize>()?, by_hand.calls.len());
+    if replayed != expected {
+        return Err(format!("replay answers {replayed:?}, not {expected:?}"));
+    }
+    if by_hand.replayed != expected || made != calls {
+        let answered = by_hand.replayed;
+        return Err(format!("by hand {answered:?} with {made} calls, not {expected:?}, {calls}"));
+    }
+    match by_hand.memory.difference(&changed(before.clone(), case)?) {
+        Some(difference) => Err(format!("memory, by hand: {difference}")),
+        None => Ok(()),
     }
 }
 

@@ -2,7 +2,7 @@
 
 use crate::implementation::Implementation;
 use crate::memory::{Guarded, Memory};
-use nt2_sys::{Answer, Copied, Delivered, Fields, Scalar};
+use nt2_sys::{Answer, Copied, Delivered, Fields, Replayed, Scalar};
 use std::fmt;
 use std::hint::black_box;
 use std::ops::RangeInclusive;
@@ -18,7 +18,7 @@ impl fmt::Debug for Hex {
 }
 
 /// The calls that there are.
-pub const CALLS: usize = 13;
+pub const CALLS: usize = 14;
 
 /// A call on a server's table, on a copy, or on single messages.
 #[derive(Clone, Debug)]
@@ -28,6 +28,7 @@ pub enum Call {
     Leave { connection: usize },
     Receive { connection: usize, message: Hex },
     Deliver { connection: usize, input: Hex },
+    Replay { record: Hex },
     Create { name: Hex, type_code: u8, value: Hex },
     Write { id: u16, value: Hex },
     Read { id: u16 },
@@ -56,6 +57,7 @@ pub enum Outcome {
     Fields(Fields),
     Copied(Copied),
     Delivered(Delivered),
+    Replayed(Replayed),
 }
 
 impl Call {
@@ -65,6 +67,7 @@ impl Call {
         "leave",
         "receive",
         "deliver",
+        "replay",
         "create",
         "write",
         "read",
@@ -83,14 +86,15 @@ impl Call {
             Call::Leave { .. } => 2,
             Call::Receive { .. } => 3,
             Call::Deliver { .. } => 4,
-            Call::Create { .. } => 5,
-            Call::Write { .. } => 6,
-            Call::Read { .. } => 7,
-            Call::Encode { .. } => 8,
-            Call::Decode { .. } => 9,
-            Call::CopyFresh => 10,
-            Call::CopyReceive { .. } => 11,
-            Call::CopyRead { .. } => 12,
+            Call::Replay { .. } => 5,
+            Call::Create { .. } => 6,
+            Call::Write { .. } => 7,
+            Call::Read { .. } => 8,
+            Call::Encode { .. } => 9,
+            Call::Decode { .. } => 10,
+            Call::CopyFresh => 11,
+            Call::CopyReceive { .. } => 12,
+            Call::CopyRead { .. } => 13,
         }
     }
 
@@ -98,6 +102,7 @@ impl Call {
         let (message, name, value): (&[u8], &[u8], &[u8]) = match self {
             Call::Receive { message, .. }
             | Call::Deliver { input: message, .. }
+            | Call::Replay { record: message }
             | Call::CopyReceive { message }
             | Call::Decode { bytes: message, .. } => (&message.0, &[], &[]),
             Call::Create { name, value, .. } | Call::Encode { name, value, .. } => {
@@ -149,6 +154,7 @@ impl Call {
             Call::Deliver { connection, .. } => {
                 Outcome::Delivered(I::deliver(table, marks, *connection, message, out))
             }
+            Call::Replay { .. } => Outcome::Replayed(I::replay(table, marks, message)),
             Call::Create { type_code, .. } => {
                 Outcome::Answer(I::create(table, marks, name, *type_code, value, out))
             }
@@ -175,6 +181,7 @@ impl Outcome {
             Outcome::Fields(fields) => fields.number,
             Outcome::Copied(copied) => copied.number,
             Outcome::Delivered(delivered) => delivered.number,
+            Outcome::Replayed(replayed) => replayed.number,
         }
     }
 
@@ -187,10 +194,12 @@ impl Outcome {
         }
     }
 
-    /// Whether memory may have changed. Each message of a delivery that is done writes something.
+    /// Whether memory may have changed. Each message of a delivery that is done writes something. A
+    /// line record begins with a fresh start, if memory is large enough.
     pub fn may_change_memory(&self) -> bool {
         match self {
             Outcome::Delivered(delivered) => delivered.written > 0,
+            Outcome::Replayed(replayed) => replayed.number != 14,
             _ => self.number() == 0,
         }
     }
@@ -199,7 +208,7 @@ impl Outcome {
     pub fn place(&self) -> usize {
         match self {
             Outcome::Answer(answer) => answer.place,
-            Outcome::Scalar(_) => 0,
+            Outcome::Scalar(_) | Outcome::Replayed(_) => 0,
             Outcome::Fields(fields) => fields.place,
             Outcome::Copied(copied) => copied.place,
             Outcome::Delivered(delivered) => delivered.place,
@@ -212,7 +221,8 @@ impl Outcome {
     }
 
     /// Whether a refusal, or a message ignored, says that nothing came of it, whether a delivery's
-    /// number belongs to its end, and whether only a refusal that can have a place has one.
+    /// number belongs to its end and a line record has one of its numbers, and whether only a refusal
+    /// that can have a place has one.
     pub fn keeps_form(&self) -> bool {
         let (number, place) = (self.number(), self.place());
         let refused = (1..=14).contains(&number);
@@ -222,6 +232,7 @@ impl Outcome {
                 Delivered::SPENT | Delivered::MAX_REACHED => number == 0,
                 _ => false,
             },
+            Outcome::Replayed(r) => matches!(number, 0 | 1 | 4) || number == 14 && r.records == 0,
             _ if number == 0 => true,
             Outcome::Answer(a) => a.sent == 0 && a.recipients == 0 && (!refused || a.taken == 0),
             Outcome::Scalar(s) => s == Scalar { number, ..Scalar::default() },
@@ -241,6 +252,7 @@ impl PartialEq for Outcome {
             (Outcome::Fields(left), Outcome::Fields(right)) => left == right,
             (Outcome::Copied(left), Outcome::Copied(right)) => left == right,
             (Outcome::Delivered(left), Outcome::Delivered(right)) => left == right,
+            (Outcome::Replayed(left), Outcome::Replayed(right)) => left == right,
             (Outcome::Scalar(left), Outcome::Scalar(right)) => {
                 let same_value = left.value.to_bits() == right.value.to_bits()
                     || left.value.is_nan() && right.value.is_nan();

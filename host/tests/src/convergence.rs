@@ -4,6 +4,7 @@ use crate::call::{Call, Outcome};
 use crate::delivery::{HELLO, SingleCalls, Taken};
 use crate::generate::{Generator, MOST_ROOM, Weights};
 use crate::implementation::Implementation;
+use crate::line_record::ByHand;
 use crate::memory::{Guarded, Memory};
 use crate::random::Random;
 use nt2_sys::{Answer, CONNECTIONS, ENTRIES, Head, TABLE_BYTES, headed};
@@ -214,6 +215,34 @@ pub fn run<S: Implementation, C: Implementation>(seed: u64, calls: usize) -> Res
     Ok(run)
 }
 
+/// A random line record from a seed. The same calls made by hand tell what is addressed to each client;
+/// the copies are compared with the table that the record makes.
+pub fn replayed<S: Implementation, C: Implementation>(seed: u64) -> Result<Compared, String> {
+    let mut random = Random::new(seed);
+    let mut generator = Generator::new(random.number(), Weights::RUN);
+    generator.choose_readers();
+    let record = generator.line_record();
+    let mut server = any_memory(&mut random);
+    let (table, marks) = server.lend();
+    let replayed = S::replay(table, marks, &record);
+    let by_hand = ByHand::run::<S>(any_memory(&mut random), &record);
+    if replayed != by_hand.replayed {
+        return Err(format!("{replayed:?}, and by hand {:?}", by_hand.replayed));
+    }
+    let mut clients = Clients::new();
+    by_hand.calls.iter().for_each(|made| clients.follow(&made.call, made.answer, &made.sent));
+    clients.compare::<C>(&server)
+}
+
+impl Compared {
+    /// Adds what the copies of another run took.
+    pub fn add(&mut self, other: &Compared) {
+        self.clients += other.clients;
+        self.messages += other.messages;
+        self.entries += other.entries;
+    }
+}
+
 impl Run {
     /// Adds what came of another run.
     pub fn add(&mut self, other: &Run) {
@@ -221,9 +250,7 @@ impl Run {
         self.done += other.done;
         self.delivered += other.delivered;
         self.hellos_delivered += other.hellos_delivered;
-        self.compared.clients += other.compared.clients;
-        self.compared.messages += other.compared.messages;
-        self.compared.entries += other.compared.entries;
+        self.compared.add(&other.compared);
     }
 
     fn count(&mut self, outcome: Outcome, made: &SingleCalls<'_>) {

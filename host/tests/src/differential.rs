@@ -4,6 +4,7 @@ use crate::call::{CALLS, Call, Outcome, PLACED};
 use crate::delivery::{SORTS, SingleCalls};
 use crate::generate::{Generator, MOST_ROOM, Weights};
 use crate::implementation::Implementation;
+use crate::line_record::{self, ByHand};
 use crate::memory::{Guarded, Memory};
 use nt2_sys::headed;
 use std::collections::BTreeSet;
@@ -46,6 +47,7 @@ const ANSWERS: [Answers; CALLS] = [
         at_0: &[],
         above_0: &[7, 8, 9, 10],
     },
+    Answers::without_place(&[0, 1, 4, 14]),
     Answers {
         numbers: &[0, 1, 7, 8, 9, 10, 11, 12, 13, 14],
         at_0: &[7, 8, 9, 10],
@@ -64,14 +66,15 @@ const ANSWERS: [Answers; CALLS] = [
     Answers::without_place(&[0, 6, 14]),
 ];
 
-/// Comparisons by call and number, the places of faults that were met with each, and the deliveries of
-/// each sort.
+/// Comparisons by call and number, the places of faults that were met with each, and the deliveries and
+/// line records of each sort.
 #[derive(Clone, Debug)]
 pub struct Report {
     pub comparisons: u64,
     pub numbers: [[u64; 17]; CALLS],
     places: BTreeSet<(usize, usize, usize)>,
     deliveries: [(&'static str, u64); SORTS],
+    line_records: [(&'static str, u64); line_record::SORTS.len()],
 }
 
 impl Report {
@@ -81,6 +84,7 @@ impl Report {
             numbers: [[0; 17]; CALLS],
             places: BTreeSet::new(),
             deliveries: SingleCalls::default().sorts().map(|(sort, _)| (sort, 0)),
+            line_records: line_record::SORTS.map(|sort| (sort, 0)),
         }
     }
 
@@ -94,30 +98,35 @@ impl Report {
     }
 
     fn count_delivery(&mut self, made: &SingleCalls<'_>) {
-        let deliveries = self.deliveries.iter_mut().zip(made.sorts());
-        deliveries.for_each(|((_, count), (_, is_one))| *count += u64::from(is_one));
+        count_sorts(&mut self.deliveries, &made.sorts());
+    }
+
+    fn count_line_record(&mut self, run: &ByHand) {
+        count_sorts(&mut self.line_records, &run.sorts());
     }
 
     fn add(&mut self, other: &Report) {
         self.comparisons += other.comparisons;
         self.places.extend(&other.places);
-        let deliveries = self.deliveries.iter_mut().zip(&other.deliveries);
-        deliveries.for_each(|((_, n), (_, m))| *n += m);
+        add_sorts(&mut self.deliveries, &other.deliveries);
+        add_sorts(&mut self.line_records, &other.line_records);
         for (row, others) in self.numbers.iter_mut().zip(&other.numbers) {
             row.iter_mut().zip(others).for_each(|(n, m)| *n += m);
         }
     }
 
     /// Answers that a call can give and that were not met: numbers, and places at 0 and above 0. Sorts
-    /// of deliveries too.
+    /// of deliveries and line records too.
     pub fn missed(&self) -> Vec<String> {
         let calls = Call::NAMES.iter().zip(&ANSWERS).enumerate();
         let answers = calls.flat_map(|(call, (name, answers))| {
             let missed = self.missed_by(call, answers).into_iter();
             missed.map(move |what| format!("{name} {what}"))
         });
-        let deliveries = self.deliveries.iter().filter(|(_, count)| *count == 0);
-        answers.chain(deliveries.map(|(sort, _)| format!("delivery {sort}"))).collect()
+        let deliveries = self.deliveries.iter().map(|sort| ("delivery", sort));
+        let sorts = deliveries.chain(self.line_records.iter().map(|sort| ("line record", sort)));
+        let sorts = sorts.filter(|(_, (_, count))| *count == 0);
+        answers.chain(sorts.map(|(of, (sort, _))| format!("{of} {sort}"))).collect()
     }
 
     fn missed_by(&self, call: usize, answers: &Answers) -> Vec<String> {
@@ -137,7 +146,7 @@ impl Report {
     }
 
     /// A line for each call: how often it answered with which number, and at how many places. One for
-    /// the sorts of deliveries.
+    /// the sorts of deliveries, and one for those of line records.
     pub fn lines(&self) -> Vec<String> {
         let calls = Call::NAMES.iter().zip(&self.numbers).enumerate();
         let line = |name: &str, met: Vec<String>| format!("  {name:<12} {}", met.join(", "));
@@ -146,8 +155,11 @@ impl Report {
             let met = met.map(|(n, count)| format!("{n}: {count}{}", self.at(call, n)));
             line(name, met.collect())
         });
-        let deliveries = self.deliveries.iter().map(|(sort, count)| format!("{sort}: {count}"));
-        calls.chain([line("deliveries", deliveries.collect())]).collect()
+        let sorts = |sorts: &[(&str, u64)]| {
+            sorts.iter().map(|(sort, count)| format!("{sort}: {count}")).collect()
+        };
+        let deliveries = line("deliveries", sorts(&self.deliveries));
+        calls.chain([deliveries, line("line records", sorts(&self.line_records))]).collect()
     }
 
     /// At how many places a call answered with a number, in words.
@@ -158,6 +170,15 @@ impl Report {
             count => format!(" at {count} places"),
         }
     }
+}
+
+/// Counts the sorts that were met.
+fn count_sorts(counts: &mut [(&str, u64)], met: &[(&str, bool)]) {
+    counts.iter_mut().zip(met).for_each(|((_, count), (_, met))| *count += u64::from(*met));
+}
+
+fn add_sorts(counts: &mut [(&str, u64)], others: &[(&str, u64)]) {
+    counts.iter_mut().zip(others).for_each(|((_, count), (_, other))| *count += other);
 }
 
 struct Side {
@@ -218,7 +239,10 @@ impl<L: Implementation, R: Implementation> Series<L, R> {
                 self.damaged_calls()
             } else {
                 let (call, room) = self.generator.call(&self.before.0, &self.before.1);
-                self.compare(&call, room)
+                match call {
+                    Call::Replay { .. } => self.replay(&call),
+                    _ => self.compare(&call, room),
+                }
             };
             result.map_err(|failure| format!("step {step}: {failure}"))?;
         }
@@ -242,6 +266,19 @@ impl<L: Implementation, R: Implementation> Series<L, R> {
         Ok(())
     }
 
+    /// A line record on memory that may be damaged. The table that it makes is not gone on with.
+    fn replay(&mut self, call: &Call) -> Result<(), String> {
+        let sound = self.before.clone();
+        if self.generator.random.percent(50) {
+            self.generator.damage(&mut self.before.0);
+            self.set_both();
+        }
+        self.compare(call, 0)?;
+        self.before = sound;
+        self.set_both();
+        Ok(())
+    }
+
     fn set_both(&mut self) {
         for side in [&mut self.left, &mut self.right] {
             side.server.copy_from(&self.before.0);
@@ -256,6 +293,7 @@ impl<L: Implementation, R: Implementation> Series<L, R> {
         let other = self.right.perform::<R>(call, room)?;
         self.check_answers(outcome, other)
             .and_then(|()| self.check_single_calls(call, outcome))
+            .and_then(|()| self.check_by_hand(call, outcome))
             .and_then(|()| self.check_memories(outcome))
             .map_err(|what| {
                 let (left, right) = (L::NAME, R::NAME);
@@ -301,6 +339,22 @@ impl<L: Implementation, R: Implementation> Series<L, R> {
         }
         out.refill(delivered.written);
         self.report.count_delivery(&made);
+        Ok(())
+    }
+
+    /// A line record answers and makes of the table what the same calls made by hand do.
+    fn check_by_hand(&mut self, call: &Call, outcome: Outcome) -> Result<(), String> {
+        let (Call::Replay { record }, Outcome::Replayed(replayed)) = (call, outcome) else {
+            return Ok(());
+        };
+        let run = ByHand::run::<R>(self.before.0.clone(), &record.0);
+        if run.replayed != replayed {
+            return Err(format!("calls by hand differ: {:?}", run.replayed));
+        }
+        if let Some(difference) = run.memory.difference(&self.right.server) {
+            return Err(format!("calls by hand differ: {difference}"));
+        }
+        self.report.count_line_record(&run);
         Ok(())
     }
 

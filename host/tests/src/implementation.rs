@@ -1,6 +1,6 @@
 //! What is tested: every public call over lent memory.
 
-use nt2_sys::{Answer, Copied, Delivered, Fields, LentTable, Scalar};
+use nt2_sys::{Answer, Copied, Delivered, Fields, LentTable, Replayed, Scalar};
 
 /// An implementation of the table server.
 pub trait Implementation {
@@ -23,6 +23,7 @@ pub trait Implementation {
         input: &[u8],
         out: &mut [u8],
     ) -> Delivered;
+    fn replay(table: LentTable<'_>, marks: &mut [u8], record: &[u8]) -> Replayed;
     fn create(
         table: LentTable<'_>,
         marks: &mut [u8],
@@ -96,6 +97,11 @@ macro_rules! implementation_by {
             ) -> Delivered {
                 use $module as calls;
                 calls::deliver(table, marks, connection, input, out)
+            }
+
+            fn replay(table: LentTable<'_>, marks: &mut [u8], record: &[u8]) -> Replayed {
+                use $module as calls;
+                calls::replay(table, marks, record)
             }
 
             fn create(

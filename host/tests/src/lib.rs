@@ -14,5 +14,6 @@ pub mod fingerprint;
 pub mod generate;
 pub mod implementation;
 pub mod json;
+pub mod line_record;
 pub mod memory;
 pub mod random;

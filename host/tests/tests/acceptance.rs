@@ -1,13 +1,13 @@
 //! All acceptance cases, and the build description's listing.
 
-use nt2_tests::acceptance::{FILES, folder, listing, replay};
+use nt2_tests::acceptance::{FILES, folder, listing, run_file};
 use nt2_tests::implementation::{Implementation, Reference};
 
 fn all_cases<I: Implementation>() {
     for (file, cases) in FILES {
-        let replayed = replay::<I>(&folder(), file).expect("a file of cases");
-        assert_eq!(replayed.cases, cases, "{file}");
-        assert!(replayed.failures.is_empty(), "{:#?}", replayed.failures);
+        let run = run_file::<I>(&folder(), file).expect("a file of cases");
+        assert_eq!(run.cases, cases, "{file}");
+        assert!(run.failures.is_empty(), "{:#?}", run.failures);
     }
 }
 

@@ -1,8 +1,8 @@
 //! Wrong places of faults. The differential test has to find each in every call that can have it, the
 //! acceptance cases each in some calls. With no wrong place neither finds a difference.
 
-use nt2_sys::{Answer, Copied, Delivered, Fields, LentTable, Scalar};
-use nt2_tests::acceptance::{FILES, folder, replay};
+use nt2_sys::{Answer, Copied, Delivered, Fields, LentTable, Replayed, Scalar};
+use nt2_tests::acceptance::{FILES, folder, run_file};
 use nt2_tests::differential::{Bounds, compare};
 use nt2_tests::implementation::{Implementation, Reference};
 use std::time::Duration;
@@ -131,6 +131,10 @@ impl<const CALL: usize, const WRONG: usize> Implementation for Misplaced<CALL, W
         Delivered { place: Self::place(DELIVER, &found), ..delivered }
     }
 
+    fn replay(table: LentTable<'_>, marks: &mut [u8], record: &[u8]) -> Replayed {
+        Reference::replay(table, marks, record)
+    }
+
     fn create(
         table: LentTable<'_>,
         marks: &mut [u8],
@@ -241,8 +245,8 @@ fn differential_test_finds_no_other_difference() {
 /// Whether an acceptance case fails.
 fn a_case_fails<const CALL: usize, const WRONG: usize>() -> bool {
     FILES.iter().any(|(file, _)| {
-        let replayed = replay::<Misplaced<CALL, WRONG>>(&folder(), file).unwrap();
-        !replayed.failures.is_empty()
+        let run = run_file::<Misplaced<CALL, WRONG>>(&folder(), file).unwrap();
+        !run.failures.is_empty()
     })
 }
 
@@ -296,7 +300,7 @@ fn acceptance_cases_find_no_other_difference() {
 #[test]
 fn runs_find_a_place_with_a_number_that_has_none() {
     type Wrong = Misplaced<RECEIVE, MISSING_FIELD_WITH_A_PLACE>;
-    let failures = replay::<Wrong>(&folder(), "runs.json").unwrap().failures;
+    let failures = run_file::<Wrong>(&folder(), "runs.json").unwrap().failures;
     assert!(!failures.is_empty());
     for failure in failures {
         assert!(failure.ends_with("a place with a number that has none"), "{failure}");

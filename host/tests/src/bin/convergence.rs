@@ -1,10 +1,10 @@
-//! Demand 3 on random runs: server and copy of the library, and the library's server with the
-//! reference's copy.
+//! Demand 3 on random runs and line records: server and copy of the library, and the library's server
+//! with the reference's copy.
 //!
 //! Arguments: `--seed N`, `--runs N`, `--calls N` of each run, `--seconds N` for all of them.
 
 use nt2_tests::arguments::Arguments;
-use nt2_tests::convergence::{Run, run as random_run};
+use nt2_tests::convergence::{Compared, Run, replayed, run as random_run};
 use nt2_tests::ending::status;
 #[cfg(feature = "library")]
 use nt2_tests::implementation::Library as Tested;
@@ -17,6 +17,22 @@ use std::time::{Duration, Instant};
 
 /// So many runs have to meet what a run can meet.
 const COVERING_RUNS: u64 = 10;
+/// Line records beside each run.
+const LINE_RECORDS: u64 = 20;
+
+/// Line records from this seed on.
+fn line_records(seed: u64, all: &mut Compared) -> Result<(), String> {
+    for place in 0..LINE_RECORDS {
+        let seed = seed.wrapping_mul(LINE_RECORDS).wrapping_add(place);
+        let compared = if place.is_multiple_of(3) {
+            replayed::<Tested, Reference>(seed)
+        } else {
+            replayed::<Tested, Tested>(seed)
+        };
+        all.add(&compared.map_err(|failure| format!("line record {place}: {failure}"))?);
+    }
+    Ok(())
+}
 
 fn run() -> Result<(), String> {
     let arguments = Arguments::read(&["seed", "runs", "calls", "seconds"])?;
@@ -25,7 +41,7 @@ fn run() -> Result<(), String> {
     let time = Duration::from_secs(arguments.number("seconds", 240)?);
     println!("convergence, {}: seed {seed}", Tested::NAME);
     let start = Instant::now();
-    let (mut made, mut all) = (0u64, Run::default());
+    let (mut made, mut all, mut of_line_records) = (0u64, Run::default(), Compared::default());
     while made < runs && start.elapsed() < time {
         let run_seed = seed.wrapping_add(made);
         let calls = if calls > 0 { calls } else { 1000 + Random::new(run_seed).below(5000) };
@@ -34,7 +50,9 @@ fn run() -> Result<(), String> {
         } else {
             random_run::<Tested, Tested>(run_seed, calls)
         };
-        all.add(&run.map_err(|failure| format!("run of seed {run_seed}: {failure}"))?);
+        let failed = |failure| format!("run of seed {run_seed}: {failure}");
+        all.add(&run.map_err(failed)?);
+        line_records(run_seed, &mut of_line_records).map_err(failed)?;
         made += 1;
     }
     let seconds = start.elapsed().as_secs_f64();
@@ -45,13 +63,23 @@ fn run() -> Result<(), String> {
         "  {} clients' copies equal at the end: {} messages, {} entries",
         compared.clients, compared.messages, compared.entries
     );
+    println!(
+        "  {} line records, {} clients' copies equal: {} messages, {} entries",
+        made * LINE_RECORDS,
+        of_line_records.clients,
+        of_line_records.messages,
+        of_line_records.entries
+    );
     if made < runs {
         return Err(format!("only {made} of {runs} runs in time"));
     }
     if runs >= COVERING_RUNS && hellos_delivered == 0 {
         return Err("no accepted hello in a delivery".into());
     }
-    if compared.clients == 0 { Err("no clean client".into()) } else { Ok(()) }
+    if compared.clients == 0 || runs >= COVERING_RUNS && of_line_records.clients == 0 {
+        return Err("no clean client".into());
+    }
+    Ok(())
 }
 
 fn main() -> ExitCode {

@@ -1,8 +1,8 @@
 -- `goes_on`: 0 or 16.
 use borrow.Author.Tests.{eq-eqb, ne-eqb}
 use Rattle.field.specs.Answer.{done}
-use Rattle.deliver.proofs.goes_on.Statement.{statement}
-use Rattle.deliver.proofs.goes_on.Tie as tie
+use Rattle.answer.proofs.goes_on.Statement.{statement}
+use Rattle.answer.proofs.goes_on.Tie as tie
 
 returns : tie.Need-returns
 returns c = rw (eq-eqb (c .before .args .number) done (c .if1 .taken))

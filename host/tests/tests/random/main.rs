@@ -1,15 +1,20 @@
 //! Short differential and convergence tests with a fixed seed, and wrong implementations that
 //! they have to find. The programs `differential` and `convergence` go further.
 
-use nt2_sys::{Answer, Copied, DELIVERY_MESSAGES, Delivered, Fields, LentTable, Scalar};
-use nt2_tests::convergence::run;
+mod wrong_replay;
+
+use nt2_sys::{Answer, Copied, DELIVERY_MESSAGES, Delivered, Fields, LentTable, Replayed, Scalar};
+use nt2_tests::acceptance::{folder, run_file};
+use nt2_tests::convergence::{replayed, run};
 use nt2_tests::differential::{Bounds, compare};
 #[cfg(feature = "library")]
 use nt2_tests::implementation::Library as Tested;
 #[cfg(not(feature = "library"))]
 use nt2_tests::implementation::Reference as Tested;
 use nt2_tests::implementation::{Implementation, Reference};
+use std::sync::Mutex;
 use std::time::Duration;
+use wrong_replay::Fault;
 
 const BOUNDS: Bounds =
     Bounds { seed: 2013, comparisons: 100_000, time: Duration::from_secs(60), threads: 2 };
@@ -25,6 +30,12 @@ fn convergence() {
     for seed in 0..6 {
         assert!(run::<Tested, Tested>(seed, 2000).unwrap().compared.clients > 0);
     }
+}
+
+#[test]
+fn convergence_of_line_records() {
+    let clients = (0..300).map(|seed| replayed::<Tested, Tested>(seed).unwrap().clients);
+    assert!(clients.sum::<usize>() > 50);
 }
 
 /// The reference with one fault.
@@ -45,6 +56,7 @@ const PLACE_FROM_THE_INPUT: usize = 11;
 const IGNORED_NEEDS_ROOM: usize = 12;
 const RECIPIENT_LEFT_OUT: usize = 13;
 const DELIVERY_UNDONE: usize = 14;
+const LINE_RECORD: usize = 15;
 
 /// The answer to a delivery with one fault.
 fn faulty_delivery<const FAULT: usize>(input: &[u8], room: usize, answer: Delivered) -> Delivered {
@@ -129,6 +141,14 @@ impl<const FAULT: usize> Implementation for Faulty<FAULT> {
             out[1] &= out[1].wrapping_sub(1);
         }
         faulty_delivery::<FAULT>(input, out.len(), delivered)
+    }
+
+    fn replay(table: LentTable<'_>, marks: &mut [u8], record: &[u8]) -> Replayed {
+        if FAULT == LINE_RECORD {
+            let fault = *LINE_RECORD_FAULT.lock().unwrap();
+            return wrong_replay::replay(fault, table, marks, record);
+        }
+        Reference::replay(table, marks, record)
     }
 
     fn create(
@@ -231,6 +251,26 @@ fn faults_are_found() {
     found::<IGNORED_NEEDS_ROOM>();
     found::<RECIPIENT_LEFT_OUT>();
     found::<DELIVERY_UNDONE>();
+}
+
+/// The fault of the line records that `Faulty<LINE_RECORD>` runs.
+static LINE_RECORD_FAULT: Mutex<Fault> = Mutex::new(Fault::Nothing);
+
+/// By the differential test, and by the acceptance cases.
+#[test]
+fn faults_of_line_records_are_found() {
+    let found = |fault| {
+        *LINE_RECORD_FAULT.lock().unwrap() = fault;
+        let cases = run_file::<Faulty<LINE_RECORD>>(&folder(), "replay.json").unwrap();
+        let compared = compare::<Reference, Faulty<LINE_RECORD>>(BOUNDS);
+        (compared.is_err(), !cases.failures.is_empty())
+    };
+    assert_eq!(found(Fault::Nothing), (false, false));
+    for fault in Fault::ALL {
+        let in_no_case =
+            matches!(fault, Fault::CutRecordTaken | Fault::ClosedGathers | Fault::HeldOneTooFew);
+        assert_eq!(found(fault), (true, !in_no_case), "{fault:?}");
+    }
 }
 
 #[test]

@@ -1,0 +1,12 @@
+pub mod ShortLaws
+pub mod CompleteLaws
+pub mod HeldLaws
+pub mod CallsLaws
+pub mod NextLaws
+pub mod RunLaws
+pub mod MarkLaws
+pub mod KeptLaws
+pub mod Theorem
+pub mod Computed
+pub mod RoomLaws
+pub mod StartLaws

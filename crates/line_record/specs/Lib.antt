@@ -1,0 +1,7 @@
+pub mod Effect
+pub mod Plant
+pub mod Held
+pub mod Record
+pub mod Replay
+pub mod Calls
+pub mod Demand

@@ -1,0 +1,2 @@
+pub mod FewLaws
+pub mod Theorem
