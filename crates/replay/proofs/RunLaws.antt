@@ -34,7 +34,7 @@ advance-takes : (s : RunState) (bytes : List ℕ) → advance maxEntries s bytes
 advance-takes s bytes e = omega (arith, advance-done maxEntries s bytes e .size-is)
 
 -- one that is not changes nothing
-advance-stays : (s : RunState) (n : NextRecord) → (advanceOn maxEntries s n .number ≡ done → ⊥) → advanceOn maxEntries s n .state ≡ s
+pub advance-stays : (s : RunState) (n : NextRecord) → (advanceOn maxEntries s n .number ≡ done → ⊥) → advanceOn maxEntries s n .state ≡ s
 unfolding advanceOn
 advance-stays s (refusedRecord number) ne = refl
 advance-stays s (found r size) ne = absurd (ne refl)
