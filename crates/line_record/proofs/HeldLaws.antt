@@ -25,7 +25,7 @@ use Rattle.protocol.specs.Judge.{Call, localCreate, localWrite, newId}
 use Rattle.protocol.specs.Step.{ServerMemory, LentCall, callStep}
 use Rattle.protocol.specs.Run.{memoryAfterRun}
 use Rattle.protocol.specs.Kept.{SoundMemory}
-use Rattle.protocol.proofs.AnswerLaws.{not-refused}
+use Rattle.protocol.proofs.AnswerLaws.{not-refused, call-answered}
 use Rattle.protocol.proofs.ProgressLaws.{call-progress}
 use Rattle.protocol.proofs.SoundnessLaws.{sound-kept}
 use Rattle.convergence.proofs.RunLaws.{sound-run}
@@ -38,7 +38,7 @@ use Rattle.line_record.proofs.CompleteLaws.{client-short, create-comple
 -- ---- one message
 
 -- a message is taken with 0 or 16
-done-or-ignored : (number : ℕ) → goesOn number ≡ true → (number ≡ done) ⊎ (number ≡ ignored)
+pub done-or-ignored : (number : ℕ) → goesOn number ≡ true → (number ≡ done) ⊎ (number ≡ ignored)
 done-or-ignored number = go (eqb number done) (eqb number ignored) refl refl
   where
     go : (a b : Bool) → eqb number done ≡ a → eqb number ignored ≡ b → (a || b) ≡ true → (number ≡ done) ⊎ (number ≡ ignored)
@@ -46,8 +46,9 @@ done-or-ignored number = go (eqb number done) (eqb number ignored) refl refl
     go false true p q h = inr (eqb-true number ignored q)
     go false false p q h = absurd (false≢true h)
 
--- with 1 there are few bytes; with 0 or 16 some of them are taken
+-- with 1 there are few bytes; with 0 or 16 some of them are taken; there is no other number but a refusal's
 record EffectFacts (m : List ℕ) (e : Effect) : Type 0 where
+  numbers : (e .number ≡ done) ⊎ ((e .number ≡ ignored) ⊎ RefusalNumber (e .number))
   short : e .number ≡ incomplete → length m ≤ longestIncomplete
   takes : goesOn (e .number) ≡ true → (1 ≤ e .taken) × (e .taken ≤ length m)
 
@@ -56,18 +57,20 @@ module _ (limit : ℕ) (mem : ServerMemory) (m : List ℕ) where
   client-facts c =
       let progress = call-progress limit mem c m (longestOutput limit) in
       record {
+        numbers = call-answered limit mem (clientCall limit c m) .numbers;
         short = client-short limit mem (longestOutput limit) c m;
         takes = λ on. (progress .takes-some (done-or-ignored _ on), progress .takes-there);
       }
 
   refused-facts : (number : ℕ) → RefusalNumber number → (number ≡ incomplete → length m ≤ longestIncomplete) → EffectFacts m (plantEffect limit mem (refusedMessage number))
   unfolding plantEffect
-  refused-facts number n f = record { short = f; takes = λ on. absurd (not-refused number n (done-or-ignored number on)) }
+  refused-facts number n f = record { numbers = inr (inr n); short = f; takes = λ on. absurd (not-refused number n (done-or-ignored number on)) }
 
   asks-facts : (call : Call) (size : ℕ) → 1 ≤ size → size ≤ length m → callStep limit mem (withOutput limit call) .number ≢ incomplete
       → EffectFacts m (plantEffect limit mem (asks call size))
   unfolding plantEffect
-  asks-facts call size some there complete = record { short = λ e. absurd (complete e); takes = λ on. rw (pick-true size 0 on) (some, there) }
+  asks-facts call size some there complete =
+      record { numbers = call-answered limit mem (withOutput limit call) .numbers; short = λ e. absurd (complete e); takes = λ on. rw (pick-true size 0 on) (some, there) }
 
   create-facts : (r : AssignmentRead) → AssignmentIs (idAllowed (Only newId)) m r → AssignmentRefused r → AssignmentShort m r → EffectFacts m (plantEffect limit mem (plantCreate m r))
   create-facts (A.Refused fault) f (AssignmentRefused.refused n) (AssignmentShort.refused h) = refused-facts (plantNumber (fault .number)) (right (fault .number) n) (one (fault .number) h)
@@ -106,6 +109,10 @@ module _ (limit : ℕ) (mem : ServerMemory) (m : List ℕ) where
 
 pub incomplete-short : IncompleteShort
 incomplete-short limit mem c m = effect-facts limit mem m c .short
+
+pub effect-numbers : (limit : ℕ) (mem : ServerMemory) (c : ℕ) (m : List ℕ)
+    → (messageEffect limit mem c m .number ≡ done) ⊎ ((messageEffect limit mem c m .number ≡ ignored) ⊎ RefusalNumber (messageEffect limit mem c m .number))
+effect-numbers limit mem c m = effect-facts limit mem m c .numbers
 
 pub effect-takes : (limit : ℕ) (mem : ServerMemory) (c : ℕ) (m : List ℕ) → goesOn (messageEffect limit mem c m .number) ≡ true
     → (1 ≤ messageEffect limit mem c m .taken) × (messageEffect limit mem c m .taken ≤ length m)

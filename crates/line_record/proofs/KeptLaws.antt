@@ -43,7 +43,7 @@ module _ (limit : ℕ) (mem : ServerMemory) where
   plant-unchanged (asks call size) = record { unchanged = λ n. call-answered limit mem (withOutput limit call) .unchanged n .0 }
 
   -- a message that is not done changes nothing
-  effect-unchanged : (c : ℕ) (m : List ℕ) → messageEffect limit mem c m .number ≢ done → messageEffect limit mem c m .memory ≡ mem
+  pub effect-unchanged : (c : ℕ) (m : List ℕ) → messageEffect limit mem c m .number ≢ done → messageEffect limit mem c m .memory ≡ mem
   unfolding messageEffect
   effect-unchanged c m =
       by-test (Unchanged mem) _ _ _ (λ _. record { unchanged = λ n. call-answered limit mem (clientCall limit c m) .unchanged n .0 }) (λ _. plant-unchanged _) .unchanged
@@ -53,11 +53,11 @@ module _ (marks : List ℕ) (c : ℕ) (b : c < connections) where
   unfolding isClosed
   closed-is e = eqb-true _ _ (and-eq-true-iff (ltb c connections) (eqb (getD marks c 0) closed) .0 e .1)
 
-  is-closed : getD marks c 0 ≡ closed → isClosed marks c ≡ true
+  pub is-closed : getD marks c 0 ≡ closed → isClosed marks c ≡ true
   unfolding isClosed
   is-closed e = rw (lt-ltb c connections b, e)
 
-  not-closed : isClosed marks c ≡ false → getD marks c 0 ≢ closed
+  pub not-closed : isClosed marks c ≡ false → getD marks c 0 ≢ closed
   not-closed f e = true≢false (sym (is-closed e) ∙ f)
 
 record ClosedEmpty (c : ℕ) (s : Settled) : Type 0 where

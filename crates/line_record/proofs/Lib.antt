@@ -6,7 +6,14 @@ pub mod NextLaws
 pub mod RunLaws
 pub mod MarkLaws
 pub mod KeptLaws
+pub mod JudgedLaws
+pub mod AnsweredLaws
 pub mod Theorem
+pub mod Examples
 pub mod Computed
+pub mod ComputedPlant
+pub mod ComputedConnections
+pub mod Instance
 pub mod RoomLaws
+pub mod RoomRunLaws
 pub mod StartLaws

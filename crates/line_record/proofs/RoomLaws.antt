@@ -111,7 +111,7 @@ module _ (limit : ℕ) (mem : ServerMemory) (some : 1 ≤ limit) (s : SoundMemor
   verdict-room call (storeUpdate id number value taken to) (VerdictIs.updated h w t) =
       update-room limit id number value some (value-small (getD (entriesOf (mem .table)) id defaultEntry .type) value (length value) w)
 
-  call-with-room : (call : Call) (out : List ℕ) → longestHello limit ≤ length out
+  pub call-with-room : (call : Call) (out : List ℕ) → longestHello limit ≤ length out
       → effectOf (callStep limit mem (record { call = call; output = out })) ≡ withRoom mem (judge limit (entriesOf (mem .table)) (mem .marks) call)
   call-with-room call out room =
       let v = judge limit (entriesOf (mem .table)) (mem .marks) call in

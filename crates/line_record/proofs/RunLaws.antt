@@ -1,5 +1,6 @@
 -- Laws of a run over records: what its first record comes to, and that a record can be run in pieces.
 use mathlib.Core.Path.{_≡_, refl, sym, ap, _∙_}
+use mathlib.Core.Bool.{Bool, true, false, false≢true}
 use mathlib.Core.Logic.{_≢_}
 use mathlib.Core.List.{List, [], _∷_, _++_, append-assoc}
 use Prim.Native.Nat.{ℕ, zero, suc, _+_, _-_, _≤_, _<_}
@@ -8,16 +9,18 @@ use native.Mathlib.Nat.{zero-add, add-assoc}
 use native.Mathlib.Omega.{arith}
 use lib.ListN.{length, getD, drop, length-append, length-drop}
 use lib.Seq.{drop-append-le}
+use lib.Dec.{eqb}
 use borrow.Author.Tests.{le-leb, lt-leb, eq-eqb, ne-eqb}
 use Rattle.field.specs.Answer.{done}
+use Rattle.field.specs.Choice.{pick, demand}
 use Rattle.field.proofs.ChoiceLaws.{pick-true, pick-false}
-use Rattle.protocol.specs.Step.{LentCall}
+use Rattle.protocol.specs.Step.{ServerMemory, LentCall, freshStart}
 use Rattle.line_record.specs.Record.{recordHeadSize, dataSize}
-use Rattle.line_record.specs.Replay.{RunState, Advanced, advanceOn, advance, Ran, stopped, behind, run}
-use Rattle.line_record.specs.Calls.{RunInPieces, AdvanceLooksAt}
+use Rattle.line_record.specs.Replay.{RunState, runState, Advanced, advanceOn, advance, Ran, stopped, behind, run, noneHeld, replay}
+use Rattle.line_record.specs.Calls.{RunInPieces, ReplayInPieces, AdvanceLooksAt}
 use Rattle.line_record.proofs.NextLaws.{looks-at, advance-done, advance-before}
 
-no-bytes : (bytes : List ℕ) → length bytes ≡ 0 → bytes ≡ []
+pub no-bytes : (bytes : List ℕ) → length bytes ≡ 0 → bytes ≡ []
 no-bytes [] e = refl
 no-bytes (x ∷ xs) e = absurd (omega arith)
 
@@ -141,3 +144,21 @@ module _ (limit : ℕ) (rest : List ℕ) where
 
 pub run-in-pieces : RunInPieces
 run-in-pieces limit s first rest e = in-pieces limit rest (length first) (length (first ++ rest)) s first (omega arith) (omega arith) e
+
+pub replay-in-pieces : ReplayInPieces
+unfolding replay pick
+replay-in-pieces limit mem first rest = go (eqb number done) refl
+  where
+    number : ℕ
+    number = freshStart limit mem .number
+
+    s : RunState
+    s = runState (freshStart limit mem .memory) noneHeld
+
+    from : Bool → List ℕ → Ran
+    from started bytes = demand started (stopped number s) (run (length bytes) limit s bytes)
+
+    go : (started : Bool) → eqb number done ≡ started → from started first .number ≡ done
+        → from started (first ++ rest) ≡ behind (from started first .records) (from started first .calls) (run (length rest) limit (from started first .state) rest)
+    go true e d = run-in-pieces limit s first rest d
+    go false e d = absurd (false≢true (sym e ∙ eq-eqb number done d))

@@ -141,9 +141,16 @@ loop-again c =
     let x = c .before .before .before .before .before .before .before .before .before .before .before .before in
     let l = head x in
     let i = l .loop .inv in
-    let k = x .advance .kept in
-    (k .0 ∙ i .0, k .1 .0 ∙ i .1, k .1 .1 .1 .0 ∙ i .2, k .1 .1 .1 .1 .0 ∙ i .3, k .1 .1 .1 .1 .1 .0 ∙ i .4, read x .read-piece .kept .0 ∙ i .5,
-      piece-done (i .6) (piece x) (x .advance .result) _ (x .advance .ensures .0) (c .if2 .left), x .advance .ensures .1 .0)
+    let k = x .advance .kept in (
+      k .0 ∙ i .0,
+      k .1 .0 ∙ i .1,
+      k .1 .1 .1 .0 ∙ i .2,
+      k .1 .1 .1 .1 .0 ∙ i .3,
+      k .1 .1 .1 .1 .1 .0 ∙ i .4,
+      read x .read-piece .kept .0 ∙ i .5,
+      piece-done (i .6) (piece x) (x .advance .result) _ (x .advance .ensures .0) (c .if2 .left),
+      x .advance .ensures .1 .0,
+    )
 
 same-length-13 : tie.Need-same-length-13 Inv-loop μ-loop
 same-length-13 c = search needs
