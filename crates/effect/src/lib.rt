@@ -8,17 +8,12 @@ use message::ASSIGNMENT_FIXED;
 use message::ASSIGNMENT_NAME_START;
 use message::REVISION_LENGTH;
 use message::UPDATE_VALUE_START;
-use sequence::SequenceNumber;
 ghost use mathlib.Core.Path.{_≡_};
 ghost use mathlib.Core.Bool.{true};
 ghost use mathlib.Core.List.{List};
-ghost use Prim.Native.Nat.{ℕ, _≤_, _<_};
+ghost use Prim.Native.Nat.{ℕ, _≤_};
 ghost use lib.ListN.{length};
-ghost use Rattle.sequence.specs.SequenceNumber.{start};
-ghost use Rattle.value.specs.Value.{maxValueSize};
-ghost use Rattle.message.specs.Layout.{maxNameLength};
-ghost use Rattle.message.specs.Lent.{lentEntry};
-ghost use Rattle.table.specs.Table.{TableMemory, lent, storeEntry, maxEntries};
+ghost use Rattle.table.specs.Table.{TableMemory, lent, maxEntries};
 ghost use Rattle.soundness.specs.Sound.{soundTable, soundMarks, connections};
 ghost use Rattle.protocol.specs.Judge.{openConnection, leave, clientMessage, localCreate, localWrite};
 ghost use Rattle.protocol.specs.Step.{callStep, execute};
@@ -71,37 +66,6 @@ pub fn leave(marks: &mut [u8], c: usize) -> u8
 
 // ---- a client's message
 
-// A new entry with the next ID and the first number.
-fn store_new(
-    heads: &mut [u16],
-    bytes: &mut [u8],
-    count: &mut u16,
-    name: &[u8],
-    type_code: u8,
-    value: &[u8],
-)
-    requires sound { ⌜ soundTable maxEntries (lent heads bytes (now count)) ≡ true ⌝ }
-    requires room { ⌜ now count < maxEntries ⌝ }
-    requires lengths { ⌜ (length (now name) ≤ maxNameLength) × (length (now value) ≤ maxValueSize) ⌝ }
-    ensures { λ _.
-        ⌜ lent (heads .exit) (bytes .exit) (now (count .exit))
-        ≡ storeEntry (lent (heads .entry) (bytes .entry) (now (count .entry)))
-        (lentEntry (name .entry) «type_code» start (value .entry)) ⌝ }
-{
-    let id = *count;
-    let number = SequenceNumber::start();
-    table::store_entry(
-        heads,
-        bytes,
-        id as usize,
-        name,
-        type_code as u16,
-        number.0,
-        value,
-    );
-    *count = id + 1;
-}
-
 // A decision on a message m of connection c.
 fn apply(
     heads: &mut [u16],
@@ -140,7 +104,7 @@ fn apply(
             let value_at = ASSIGNMENT_FIXED + name_length;
             let taken = value_at + value_length;
             let name = &m[ASSIGNMENT_NAME_START..name_end];
-            store_new(heads, bytes, count, name, type_code, &m[value_at..taken]);
+            perform::add_entry(heads, bytes, count, name, type_code, &m[value_at..taken]);
             answers(DONE, taken)
         }
         Decision::StoreUpdate {
@@ -201,7 +165,7 @@ pub fn create(
     match judge::judge_create(heads, bytes, *count, name, type_code, value) {
         CreateDecision::Refuse(fault) => fault.number,
         CreateDecision::Store => {
-            store_new(heads, bytes, count, name, type_code, value);
+            perform::add_entry(heads, bytes, count, name, type_code, value);
             DONE
         }
     }

@@ -3,8 +3,7 @@ use mathlib.Core.Path.{_≡_, refl}
 use mathlib.Core.List.{List, [], _∷_, _++_}
 use mathlib.Core.Bool.{true, false}
 use Prim.Native.Nat.{ℕ, zero, suc, _+_, _-_}
-use native.Mathlib.Omega.{arith}
-use lib.ListN.{length, take, drop, getD, replicate}
+use lib.ListN.{length, take, drop, replicate}
 use Rattle.field.specs.Choice.{pick}
 use Rattle.field.specs.Octets.{decode16, encode16, overwriteAt, bytesEqual}
 use Rattle.sequence.specs.SequenceNumber.{passedBy}

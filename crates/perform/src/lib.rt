@@ -13,7 +13,7 @@ ghost use Prim.Native.Nat.{ℕ, _+_, _≤_, _<_};
 ghost use mathlib.Core.List.{List};
 ghost use lib.ListN.{length, set};
 ghost use Rattle.answer.specs.Answers.{doneAnswer};
-ghost use Rattle.table.specs.Table.{TableMemory, Holds, lent, maxEntries};
+ghost use Rattle.table.specs.Table.{TableMemory, Holds, lent, storeEntry, maxEntries};
 ghost use Rattle.message.specs.Layout.{maxNameLength};
 ghost use Rattle.message.specs.Lent.{lentEntry};
 ghost use Rattle.recipients.specs.Recipients.{Recipients, allGreeted, recipientSet};
@@ -99,7 +99,38 @@ fn turn_away(marks: &mut [u8], c: usize, out: &mut [u8]) -> Answer
 
 // ---- entries
 
-// A new entry with the next ID and the first number, to all greeted connections.
+// A new entry with the next ID and the first number.
+pub fn add_entry(
+    heads: &mut [u16],
+    bytes: &mut [u8],
+    count: &mut u16,
+    name: &[u8],
+    type_code: u8,
+    value: &[u8],
+)
+    requires sound { ⌜ soundTable maxEntries (lent heads bytes (now count)) ≡ true ⌝ }
+    requires room { ⌜ now count < maxEntries ⌝ }
+    requires lengths { ⌜ (length (now name) ≤ maxNameLength) × (length (now value) ≤ maxValueSize) ⌝ }
+    ensures { λ _.
+        ⌜ lent (heads .exit) (bytes .exit) (now (count .exit))
+        ≡ storeEntry (lent (heads .entry) (bytes .entry) (now (count .entry)))
+        (lentEntry (name .entry) «type_code» start (value .entry)) ⌝ }
+{
+    let id = *count;
+    let number = SequenceNumber::start();
+    table::store_entry(
+        heads,
+        bytes,
+        id as usize,
+        name,
+        type_code as u16,
+        number.0,
+        value,
+    );
+    *count = id + 1;
+}
+
+// It, and its assignment to all greeted connections.
 pub fn store_new(
     heads: &mut [u16],
     bytes: &mut [u8],
@@ -126,16 +157,7 @@ pub fn store_new(
     }
     let number = SequenceNumber::start();
     let sent = encoder::write_assignment(out, name, type_code, id, number.0, value);
-    table::store_entry(
-        heads,
-        bytes,
-        id as usize,
-        name,
-        type_code as u16,
-        number.0,
-        value,
-    );
-    *count = id + 1;
+    add_entry(heads, bytes, count, name, type_code, value);
     answer::done(recipients, taken, sent)
 }
 

@@ -110,19 +110,19 @@ part-name-end : tie.Need-part-name-end
 unfolding new-start
 part-name-end c = omega (arith, new-fits (c .before) .1)
 
-sub-store-new : tie.Need-sub-store-new
-sub-store-new c = search needs
+sub-add-entry : tie.Need-sub-add-entry
+sub-add-entry c = search needs
 
-part-store-new-start : tie.Need-part-store-new-start
-part-store-new-start c = search needs
+part-add-entry-start : tie.Need-part-add-entry-start
+part-add-entry-start c = search needs
 
-part-store-new-end : tie.Need-part-store-new-end
+part-add-entry-end : tie.Need-part-add-entry-end
 unfolding new-start
-part-store-new-end c = omega (arith, new-fits (c .before .before .before .before .before) .1)
+part-add-entry-end c = omega (arith, new-fits (c .before .before .before .before .before) .1)
 
-store-new-requires : tie.Need-store-new-requires
+add-entry-requires : tie.Need-add-entry-requires
 unfolding new-start
-store-new-requires c κs =
+add-entry-requires c κs =
     let d = c .before .before .before .before .before .before in
     let s = new-start d in
     let h = new-fits d in
@@ -204,7 +204,7 @@ returns-5 c =
     let k = c .before .before .before .before .before in
     let d = k .before .before .before .before .before .before .before in
     let n = d .decision3 .given .0 .1 .0 in
-    rw (c .answers5 .ensures, k .store-new .ensures, add-sub-cancel-left assignmentNameStart n, add-sub-cancel-left (assignmentFixed + n) (d .decision3 .given .0 .1 .1 .0))
+    rw (c .answers5 .ensures, k .add-entry .ensures, add-sub-cancel-left assignmentNameStart n, add-sub-cancel-left (assignmentFixed + n) (d .decision3 .given .0 .1 .1 .0))
     (carried (new-start d) _ (d .decision3 .given .1))
 
 same-length-5 : tie.Need-same-length-5
@@ -242,10 +242,10 @@ apply-spec =
     sub-name
     part-name-start
     part-name-end
-    sub-store-new
-    part-store-new-start
-    part-store-new-end
-    store-new-requires
+    sub-add-entry
+    part-add-entry-start
+    part-add-entry-end
+    add-entry-requires
     answers-requires-5
     enum-known-decision-4
     add-taken-2

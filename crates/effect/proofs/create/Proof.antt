@@ -43,9 +43,9 @@ enum-known-fault c = search needs
 enum-told : tie.Need-enum-told
 enum-told c = search needs
 
-store-new-requires : tie.Need-store-new-requires
+add-entry-requires : tie.Need-add-entry-requires
 unfolding to-start
-store-new-requires c κs =
+add-entry-requires c κs =
     let t = c .before .before .before in
     let j = t .before .before in
     let s = to-start j in
@@ -75,7 +75,7 @@ unfolding to-start
 returns-2 c = λ marks h.
     let k = c .before .before .before .before in
     let t = k .before .before .before .before in
-    rw (k .store-new .ensures) (effect (t .before .before) _ (t .enum-told .given .1) marks h)
+    rw (k .add-entry .ensures) (effect (t .before .before) _ (t .enum-told .given .1) marks h)
 
 pub create-spec : {M : Type 1} → statement M
 create-spec =
@@ -84,7 +84,7 @@ create-spec =
     judge-create-requires
     enum-known-fault
     enum-told
-    store-new-requires
+    add-entry-requires
     same-length
     same-length-2
     returns

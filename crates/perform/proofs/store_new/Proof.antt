@@ -1,5 +1,4 @@
 -- `store_new` does what the verdict on a new entry does: the assignment is sent, and the entry stored behind the others.
-use Prim.Native.Nat.{_+_}
 use native.Mathlib.Omega.{arith}
 use lib.ListN.{length}
 use borrow.Author.Tests.{lt-leb, le-leb}
@@ -7,16 +6,10 @@ use Rattle.field.specs.Choice.{pick}
 use Rattle.sequence.specs.SequenceNumber.{start}
 use Rattle.message.specs.Layout.{Entry, assignmentBytes}
 use Rattle.message.proofs.ReadBack.{length-assignment}
-use Rattle.table.specs.Table.{TableMemory, tableMemory, storeEntry, maxEntries}
-use Rattle.table.proofs.SearchLaws.{holds-less}
-use Rattle.soundness.proofs.ReadableLaws.{sound-holds}
 use Rattle.protocol.specs.Step.{execute}
 use borrow.Author.Needs.{needs}
 use Rattle.perform.proofs.store_new.Statement.{statement}
 use Rattle.perform.proofs.store_new.Tie as tie
-
-abbrev memory : tie.Start → TableMemory
-memory s = tableMemory (s .args .heads .now) (s .args .bytes .now) (s .args .count .now)
 
 abbrev new : tie.Start → Entry
 new s = record { name = s .args .name .now; type = s .args .type-code; number = start; value = s .args .value .now }
@@ -44,13 +37,10 @@ start-requires c κs = search needs
 write-assignment-requires : tie.Need-write-assignment-requires
 write-assignment-requires c κs = search needs
 
-store-entry-requires : tie.Need-store-entry-requires
-store-entry-requires c κs =
-    let s = c .before .before .before .before .before .before .before .before .before .before .before .before .before .before in
-    (holds-less (s .args .count .now + 1) (omega (arith, s .pre .1 .0)) (sound-holds maxEntries (memory s) (s .pre .0)), s .pre .1 .1)
-
-add-count : tie.Need-add-count
-add-count c = search needs
+add-entry-requires : tie.Need-add-entry-requires
+add-entry-requires c κs =
+    let s = c .before .before .before .before .before .before .before .before .before .before .before .before .before .before .before in
+    s .pre
 
 done-requires : tie.Need-done-requires
 done-requires c κs = search needs
@@ -65,15 +55,15 @@ same-length-3 : tie.Need-same-length-3
 same-length-3 c = search needs
 
 returns-2 : tie.Need-returns-2
-unfolding execute storeEntry pick
+unfolding execute pick
 returns-2 c = λ marks h.
     let w = c .before .before .before .before .before in
-    let u = w .before .before .before .before .before in
+    let u = w .before .before .before .before .before .before in
     let g = u .before .before in
     let e = g .before in
     let s = e .before .before .before .before .before .before .before in
     let id = s .args .count .now in
-    rw (c .done .ensures, w .store-entry .ensures .0, w .store-entry .ensures .1, u .write-assignment .ensures .0, u .write-assignment .ensures .1, g .start .ensures, h, le-leb (length (assignmentBytes id (new s))) (length (s .args .out .now)) (omega (arith, e .if1 .left, length-assignment id (new s))))
+    rw (c .done .ensures, w .add-entry .ensures, u .write-assignment .ensures .0, u .write-assignment .ensures .1, g .start .ensures, h, le-leb (length (assignmentBytes id (new s))) (length (s .args .out .now)) (omega (arith, e .if1 .left, length-assignment id (new s))))
 
 pub store-new-spec : {M : Type 1} → statement M
 store-new-spec =
@@ -85,8 +75,7 @@ store-new-spec =
     returns
     start-requires
     write-assignment-requires
-    store-entry-requires
-    add-count
+    add-entry-requires
     done-requires
     same-length
     same-length-2

@@ -1,12 +1,12 @@
--- `store_new` stores the entry behind the others, and counts it.
+-- `add_entry` stores the entry behind the others, and counts it.
 use Prim.Native.Nat.{_+_}
 use native.Mathlib.Omega.{arith}
 use Rattle.table.specs.Table.{TableMemory, tableMemory, storeEntry, maxEntries}
 use Rattle.table.proofs.SearchLaws.{holds-less}
 use Rattle.soundness.proofs.ReadableLaws.{sound-holds}
 use borrow.Author.Needs.{needs}
-use Rattle.effect.proofs.store_new.Statement.{statement}
-use Rattle.effect.proofs.store_new.Tie as tie
+use Rattle.perform.proofs.add_entry.Statement.{statement}
+use Rattle.perform.proofs.add_entry.Tie as tie
 
 abbrev memory : tie.Start → TableMemory
 memory s = tableMemory (s .args .heads .now) (s .args .bytes .now) (s .args .count .now)
@@ -34,7 +34,7 @@ returns c =
     let w = c .before .before .before .before in
     rw (w .store-entry .ensures .0, w .store-entry .ensures .1, w .before .before .before .start .ensures)
 
-pub store-new-spec : {M : Type 1} → statement M
-store-new-spec =
+pub add-entry-spec : {M : Type 1} → statement M
+add-entry-spec =
     tie.close
     (tie.spec start-requires store-entry-requires add-count same-length same-length-2 returns)
