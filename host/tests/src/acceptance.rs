@@ -44,10 +44,15 @@ pub struct FileRun {
     pub failures: Vec<String>,
 }
 
+/// What a file of cases holds.
+fn read_file(folder: &Path, file: &str) -> Checked<Json> {
+    let text = fs::read_to_string(folder.join(file)).map_err(|e| format!("{file}: {e}"))?;
+    Json::parse(&text).map_err(|e| format!("{file}: {e}"))
+}
+
 /// Runs all cases of a file.
 pub fn run_file<I: Implementation>(folder: &Path, file: &str) -> Checked<FileRun> {
-    let text = fs::read_to_string(folder.join(file)).map_err(|e| format!("{file}: {e}"))?;
-    let json = Json::parse(&text).map_err(|e| format!("{file}: {e}"))?;
+    let json = read_file(folder, file)?;
     if member(&json, "format")?.text()? != "nt2-cases-1" {
         return Err(format!("{file}: another format"));
     }
@@ -407,11 +412,15 @@ pub fn listing<I: Implementation>(input: &[u8]) -> String {
 
 /// The inputs of the listing program's cases, each with what it writes.
 pub fn listing_cases(folder: &Path) -> Checked<Vec<(Vec<u8>, String)>> {
-    let file = "listing.json";
-    let text = fs::read_to_string(folder.join(file)).map_err(|e| format!("{file}: {e}"))?;
-    let json = Json::parse(&text).map_err(|e| format!("{file}: {e}"))?;
+    let json = read_file(folder, "listing.json")?;
     let cases = member(&json, "cases")?.list()?.iter();
     cases.map(|case| Ok((bytes(case, "i")?, member(case, "text")?.text()?.to_string()))).collect()
+}
+
+/// The line records of the cases, whatever memory these are about.
+pub fn line_records(folder: &Path) -> Checked<Vec<Vec<u8>>> {
+    let json = read_file(folder, "replay.json")?;
+    member(&json, "cases")?.list()?.iter().map(|case| bytes(case, "i")).collect()
 }
 
 fn check_listing<I: Implementation>(case: &Json) -> Checked {

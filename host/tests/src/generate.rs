@@ -1,6 +1,9 @@
 //! Random calls that fit the state of a table, and damaged ones.
 
 mod record;
+mod shown;
+
+pub use shown::Directed;
 
 use crate::call::{CALLS, Call, Hex};
 use crate::implementation::{Implementation, Reference};

@@ -16,4 +16,6 @@ pub mod implementation;
 pub mod json;
 pub mod line_record;
 pub mod memory;
+pub mod program;
 pub mod random;
+pub mod table_text;

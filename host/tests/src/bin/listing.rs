@@ -6,25 +6,8 @@
 use nt2_tests::acceptance::{folder, listing, listing_cases};
 use nt2_tests::ending::status;
 use nt2_tests::implementation::Reference;
-use std::io::Write;
-use std::process::{Command, ExitCode, Stdio};
-use std::thread;
-
-/// What the program writes for an input.
-fn written(program: &str, input: &[u8]) -> Result<Vec<u8>, String> {
-    let mut child = Command::new(program)
-        .stdin(Stdio::piped())
-        .stdout(Stdio::piped())
-        .spawn()
-        .map_err(|e| format!("{program}: {e}"))?;
-    let mut stdin = child.stdin.take().ok_or("no standard input")?;
-    let input = input.to_vec();
-    // The program does not read past its limit, so the rest of a longer input may stay unwritten.
-    let writer = thread::spawn(move || drop(stdin.write_all(&input)));
-    let output = child.wait_with_output().map_err(|e| e.to_string())?;
-    writer.join().map_err(|_| "the input was not written")?;
-    if output.status.success() { Ok(output.stdout) } else { Err(output.status.to_string()) }
-}
+use nt2_tests::program::written;
+use std::process::ExitCode;
 
 fn run() -> Result<(), String> {
     let program = std::env::args().nth(1).ok_or("argument: the program")?;
