@@ -87,24 +87,6 @@ fn put_replay(
     table_text::put_table(heads, bytes, count, number, text)
 }
 
-fn show(
-    heads: &mut [u16],
-    bytes: &mut [u8],
-    marks: &mut [u8],
-    sizes: &mut [usize],
-    slots: &mut [u8],
-    piece: &mut [u8],
-    text: &mut [u8],
-)
-    requires table { ⌜ (length (now heads) ≡ headSize * maxEntries) × (length (now bytes) ≡ entrySize * maxEntries) ⌝ }
-    requires marks { ⌜ length (now marks) ≡ connections ⌝ }
-    requires slots { ⌜ (now sizes ≡ replicate recordedConnections 0) × (length (now slots) ≡ slotSize * recordedConnections) ⌝ }
-    requires piece { ⌜ length (now piece) ≡ recordHeadSize + maxArrived ⌝ }
-{
-    let end = put_replay(heads, bytes, marks, sizes, slots, piece, text);
-    io::write_all(1, &text[0..end]);
-}
-
 fn main() {
     let mut heads = [0u16; table::HEADS_SIZE];
     let mut bytes = [0u8; table::BYTES_SIZE];
@@ -113,7 +95,7 @@ fn main() {
     let mut slots = [0u8; slots::SLOTS_SIZE];
     let mut piece = [0u8; PIECE_SIZE];
     let mut text = [0u8; TEXT_SIZE];
-    show(
+    let end = put_replay(
         &mut heads,
         &mut bytes,
         &mut marks,
@@ -122,4 +104,5 @@ fn main() {
         &mut piece,
         &mut text,
     );
+    io::write_all(1, &text[0..end]);
 }
