@@ -1,5 +1,4 @@
 // The client half: a copy of the server's table, kept from the server's messages. A call judges soundness, judges, and performs.
-use answer::Answer;
 use field::Fault;
 use field::INCOMPLETE;
 use field::NAME_TAKEN;
@@ -22,7 +21,6 @@ ghost use mathlib.Core.Bool.{true};
 ghost use Prim.Native.Nat.{ℕ, _+_, _≤_};
 ghost use lib.ListN.{length};
 ghost use Rattle.field.specs.Answer.{unsound};
-ghost use Rattle.answer.specs.Answers.{bareAnswer};
 ghost use Rattle.value.specs.Value.{maxValueSize};
 ghost use Rattle.message.specs.Layout.{maxNameLength};
 ghost use Rattle.message.specs.Lent.{lentEntry};
@@ -30,7 +28,6 @@ ghost use Rattle.message.specs.Reader.{idAllowed, parseAssignment};
 ghost use Rattle.table.specs.Table.{Holds, lent, entriesOf, storeEntry, parseHeldUpdate, maxEntries};
 ghost use Rattle.soundness.specs.Sound.{soundTable};
 ghost use Rattle.protocol.specs.Copy.{judgeCopyAssignment, judgeCopyUpdate, judgeUnsupported, judgeCopy};
-ghost use Rattle.protocol.specs.Copy.{copyFreshStart};
 ghost use Rattle.protocol.specs.Place.{executeCopyWithPlace, copyWithPlace};
 ghost use Rattle.client.specs.Lent.{copied, bareCopied, refusedCopied, ignoredCopied, storedCopied};
 ghost use Rattle.client.specs.Lent.{copyVerdictOf, Copyable, DecidesCopy};
@@ -306,24 +303,6 @@ fn perform(
 }
 
 // ---- the calls
-
-// The empty copy: only the count is set.
-pub fn copy_fresh(heads: &[u16], bytes: &[u8], count: &mut u16) -> Answer
-    ensures answer { λ r.
-        ⌜ r ≡ bareAnswer (copyFreshStart maxEntries (lent (heads .entry) (bytes .entry) (now (count .entry))) .number) ⌝ }
-    ensures memory { λ _.
-        ⌜ lent (heads .entry) (bytes .entry) (now (count .exit))
-        ≡ copyFreshStart maxEntries (lent (heads .entry) (bytes .entry) (now (count .entry))) .memory ⌝ }
-{
-    if heads.len() < table::HEADS_SIZE {
-        return answer::unsound();
-    }
-    if bytes.len() < table::BYTES_SIZE {
-        return answer::unsound();
-    }
-    *count = 0;
-    answer::done(0, 0, 0)
-}
 
 // One message from the server.
 pub fn copy_receive(heads: &mut [u16], bytes: &mut [u8], count: &mut u16, m: &[u8]) -> Copied

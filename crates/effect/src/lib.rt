@@ -49,7 +49,7 @@ pub fn open(marks: &mut [u8], c: usize) -> u8
         ≡ effectOf (callStep maxEntries (besideMarks table (marks .entry)) (withoutOutput (openConnection c)))) ⌝ }
 {
     let decision = judge::judge_open(marks, c);
-    perform::perform_mark(marks, c, decision).number
+    store::perform_mark(marks, c, decision).number
 }
 
 // A connection leaves.
@@ -61,7 +61,7 @@ pub fn leave(marks: &mut [u8], c: usize) -> u8
         ≡ effectOf (callStep maxEntries (besideMarks table (marks .entry)) (withoutOutput (leave c)))) ⌝ }
 {
     let decision = judge::judge_leave(marks, c);
-    perform::perform_mark(marks, c, decision).number
+    store::perform_mark(marks, c, decision).number
 }
 
 // ---- a client's message
@@ -104,7 +104,7 @@ fn apply(
             let value_at = ASSIGNMENT_FIXED + name_length;
             let taken = value_at + value_length;
             let name = &m[ASSIGNMENT_NAME_START..name_end];
-            perform::add_entry(heads, bytes, count, name, type_code, &m[value_at..taken]);
+            store::add_entry(heads, bytes, count, name, type_code, &m[value_at..taken]);
             answers(DONE, taken)
         }
         Decision::StoreUpdate {
@@ -165,7 +165,7 @@ pub fn create(
     match judge::judge_create(heads, bytes, *count, name, type_code, value) {
         CreateDecision::Refuse(fault) => fault.number,
         CreateDecision::Store => {
-            perform::add_entry(heads, bytes, count, name, type_code, value);
+            store::add_entry(heads, bytes, count, name, type_code, value);
             DONE
         }
     }

@@ -38,7 +38,7 @@ pub fn fresh_flat(flat: &[u16], bytes: &[u8], count: &mut u16, marks: &mut [u8])
         × (lentServer (flat .entry) (bytes .entry) (now (count .exit)) (marks .exit)
         ≡ freshStart maxEntries (lentServer (flat .entry) (bytes .entry) (now (count .entry)) (marks .entry)) .memory) ⌝ }
 {
-    server::fresh(flat, bytes, count, marks)
+    start::fresh(flat, bytes, count, marks)
 }
 
 pub fn open_flat(
@@ -134,5 +134,5 @@ pub fn copy_fresh_flat(flat: &[u16], bytes: &[u8], count: &mut u16) -> Answer
         × (lent (flat .entry) (bytes .entry) (now (count .exit))
         ≡ copyFreshStart maxEntries (lent (flat .entry) (bytes .entry) (now (count .entry))) .memory) ⌝ }
 {
-    client::copy_fresh(flat, bytes, count)
+    start::copy_fresh(flat, bytes, count)
 }

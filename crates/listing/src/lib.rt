@@ -95,7 +95,7 @@ fn list_on(
         (now (text .exit)) r ⌝ }
 {
     let mut count: u16 = 0;
-    server::fresh(heads, bytes, &mut count, marks);
+    start::fresh(heads, bytes, &mut count, marks);
     server::open(heads, bytes, count, marks, 0);
     let end = digits::put_bytes(text, 0, b"offset taken answer to sent\n");
     let n = stream_length(input);

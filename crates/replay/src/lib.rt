@@ -227,7 +227,7 @@ fn replay_on(
         ≡ resultOf (replay maxEntries (lentServer (heads .entry) (bytes .entry) (now (count .entry)) (marks .entry))
         (now (recorded .entry))) ⌝ }
 {
-    let a = server::fresh(heads, bytes, count, marks);
+    let a = start::fresh(heads, bytes, count, marks);
     if a.number != DONE {
         return ended(a.number, 0);
     }

@@ -82,7 +82,7 @@ fn put_replay(
         ⌜ Shows (lentServer (heads .entry) (bytes .entry) 0 (marks .entry)) (now (text .entry)) (now (text .exit)) r ⌝ }
 {
     let mut count: u16 = 0;
-    server::fresh(heads, bytes, &mut count, marks);
+    start::fresh(heads, bytes, &mut count, marks);
     let number = run_input(heads, bytes, &mut count, marks, sizes, slots, piece);
     table_text::put_table(heads, bytes, count, number, text)
 }

@@ -62,7 +62,7 @@ pub fn call(
     out: &mut [u8],
 ) -> Answer {
     match letter {
-        b'f' => server::fresh(heads, bytes, count, marks),
+        b'f' => start::fresh(heads, bytes, count, marks),
         b'm' => server::receive(heads, bytes, count, marks, c as usize, s, out),
         b'c' => create(heads, bytes, count, marks, s, out),
         b'w' => server::write(heads, bytes, *count, marks, c as u16, s, out),

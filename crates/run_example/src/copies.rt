@@ -54,7 +54,7 @@ fn hello_of_copy(s: &[u8], out: &mut [u8; hello::LONGEST_HELLO]) -> usize {
     let mut heads = [0xA5A5u16; table::HEADS_SIZE];
     let mut bytes = [0xA5u8; table::BYTES_SIZE];
     let mut count = 0xA5A5u16;
-    client::copy_fresh(&heads, &bytes, &mut count);
+    start::copy_fresh(&heads, &bytes, &mut count);
     read_all(&mut heads, &mut bytes, &mut count, s);
     hello(&mut heads, &mut bytes, &mut count, out)
 }

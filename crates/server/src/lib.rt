@@ -7,15 +7,12 @@ use judge::WriteDecision;
 use scalar::Scalar;
 ghost use mathlib.Core.Path.{_≡_};
 ghost use mathlib.Core.Bool.{_&&_};
-ghost use Prim.Native.Nat.{ℕ, _≤_};
+ghost use Prim.Native.Nat.{ℕ};
 ghost use mathlib.Core.List.{List, []};
-ghost use lib.ListN.{length, replicate};
-ghost use Rattle.field.specs.Octets.{overwriteAt};
-ghost use Rattle.answer.specs.Answers.{bareAnswer};
 ghost use Rattle.table.specs.Table.{lent, maxEntries};
-ghost use Rattle.soundness.specs.Sound.{soundTable, soundMarks, closed, connections};
+ghost use Rattle.soundness.specs.Sound.{soundTable, soundMarks};
 ghost use Rattle.protocol.specs.Judge.{openConnection, leave, clientMessage, localCreate, localWrite, readEntry};
-ghost use Rattle.protocol.specs.Step.{callStep, freshStart, readScalar, numberOf};
+ghost use Rattle.protocol.specs.Step.{callStep, readScalar, numberOf};
 ghost use Rattle.protocol.specs.Kept.{SoundMemory};
 ghost use Rattle.protocol.specs.Place.{stepWithPlace};
 ghost use Rattle.protocol.specs.Lent.{lentServer, lentCall, answered};
@@ -31,40 +28,7 @@ pub fn is_sound(heads: &[u16], bytes: &[u8], count: u16, marks: &[u8]) -> bool
     soundness::marks_are_sound(marks)
 }
 
-// ---- starting, opening and leaving
-
-fn close_all(marks: &mut [u8])
-    requires { ⌜ connections ≤ length (now marks) ⌝ }
-    ensures { λ _. ⌜ now (marks .exit) ≡ overwriteAt (now (marks .entry)) 0 (replicate connections closed) ⌝ }
-{
-    let mut c = 0;
-    while c < soundness::CONNECTIONS {
-        marks[c] = soundness::CLOSED;
-        c += 1;
-    }
-}
-
-// Memory for a fresh start: the count becomes 0, and all connections are closed.
-pub fn fresh(heads: &[u16], bytes: &[u8], count: &mut u16, marks: &mut [u8]) -> Answer
-    ensures answer { λ r.
-        ⌜ r ≡ bareAnswer (freshStart maxEntries (lentServer (heads .entry) (bytes .entry) (now (count .entry)) (marks .entry)) .number) ⌝ }
-    ensures memory { λ _.
-        ⌜ lentServer (heads .entry) (bytes .entry) (now (count .exit)) (marks .exit)
-        ≡ freshStart maxEntries (lentServer (heads .entry) (bytes .entry) (now (count .entry)) (marks .entry)) .memory ⌝ }
-{
-    if heads.len() < table::HEADS_SIZE {
-        return answer::unsound();
-    }
-    if bytes.len() < table::BYTES_SIZE {
-        return answer::unsound();
-    }
-    if marks.len() < soundness::CONNECTIONS {
-        return answer::unsound();
-    }
-    close_all(marks);
-    *count = 0;
-    answer::done(0, 0, 0)
-}
+// ---- opening and leaving
 
 // A connection opens.
 pub fn open(heads: &[u16], bytes: &[u8], count: u16, marks: &mut [u8], c: usize) -> Answer
@@ -77,7 +41,7 @@ pub fn open(heads: &[u16], bytes: &[u8], count: u16, marks: &mut [u8], c: usize)
         return answer::unsound();
     }
     let decision = judge::judge_open(marks, c);
-    perform::perform_mark(marks, c, decision)
+    store::perform_mark(marks, c, decision)
 }
 
 // A connection leaves.
@@ -97,7 +61,7 @@ pub fn leave_connection(
         return answer::unsound();
     }
     let decision = judge::judge_leave(marks, c);
-    perform::perform_mark(marks, c, decision)
+    store::perform_mark(marks, c, decision)
 }
 
 // ---- messages, and calls of the plant's own code
@@ -166,7 +130,7 @@ pub fn create(
         CreateDecision::Refuse(fault) => answer::refused(fault),
         CreateDecision::Store => {
             let recipients = recipients::other_greeted(marks, recipients::NO_ONE);
-            perform::store_new(
+            store::store_new(
                 heads,
                 bytes,
                 count,
@@ -204,7 +168,7 @@ pub fn write(
         WriteDecision::Ignore => answer::ignored(0),
         WriteDecision::Store(number) => {
             let recipients = recipients::other_greeted(marks, recipients::NO_ONE);
-            perform::store_update(heads, bytes, id, number, value, 0, recipients, out)
+            store::store_update(heads, bytes, id, number, value, 0, recipients, out)
         }
     }
 }

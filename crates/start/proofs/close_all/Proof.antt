@@ -7,8 +7,8 @@ use lib.ListN.{length, set, replicate, length-replicate, replicate-append-replic
 use borrow.Author.Needs.{needs}
 use Rattle.field.specs.Octets.{overwriteAt}
 use Rattle.field.proofs.OverwriteLaws.{overwrite-append}
-use Rattle.server.proofs.close_all.Statement.{statement}
-use Rattle.server.proofs.close_all.Tie as tie
+use Rattle.start.proofs.close_all.Statement.{statement}
+use Rattle.start.proofs.close_all.Tie as tie
 
 -- one more zero
 zeros-more : (xs : List ℕ) (n : ℕ) → set (overwriteAt xs 0 (replicate n 0)) n 0 ≡ overwriteAt xs 0 (replicate (n + 1) 0)

@@ -8,8 +8,8 @@ use Rattle.message.specs.Layout.{Entry, assignmentBytes}
 use Rattle.message.proofs.ReadBack.{length-assignment}
 use Rattle.protocol.specs.Step.{execute}
 use borrow.Author.Needs.{needs}
-use Rattle.perform.proofs.store_new.Statement.{statement}
-use Rattle.perform.proofs.store_new.Tie as tie
+use Rattle.store.proofs.store_new.Statement.{statement}
+use Rattle.store.proofs.store_new.Tie as tie
 
 abbrev new : tie.Start → Entry
 new s = record { name = s .args .name .now; type = s .args .type-code; number = start; value = s .args .value .now }

@@ -8,8 +8,8 @@ use Rattle.message.proofs.ReadBack.{length-update}
 use Rattle.table.specs.Table.{storeValue}
 use Rattle.protocol.specs.Step.{execute}
 use borrow.Author.Needs.{needs}
-use Rattle.perform.proofs.store_update.Statement.{statement}
-use Rattle.perform.proofs.store_update.Tie as tie
+use Rattle.store.proofs.store_update.Statement.{statement}
+use Rattle.store.proofs.store_update.Tie as tie
 
 add-if1 : tie.Need-add-if1
 add-if1 c = search needs

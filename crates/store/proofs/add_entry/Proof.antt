@@ -5,8 +5,8 @@ use Rattle.table.specs.Table.{TableMemory, tableMemory, storeEntry, maxEntries}
 use Rattle.table.proofs.SearchLaws.{holds-less}
 use Rattle.soundness.proofs.ReadableLaws.{sound-holds}
 use borrow.Author.Needs.{needs}
-use Rattle.perform.proofs.add_entry.Statement.{statement}
-use Rattle.perform.proofs.add_entry.Tie as tie
+use Rattle.store.proofs.add_entry.Statement.{statement}
+use Rattle.store.proofs.add_entry.Tie as tie
 
 abbrev memory : tie.Start → TableMemory
 memory s = tableMemory (s .args .heads .now) (s .args .bytes .now) (s .args .count .now)

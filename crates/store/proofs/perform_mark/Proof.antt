@@ -8,8 +8,8 @@ use Rattle.recipients.proofs.RecipientLaws.{nobody-set}
 use Rattle.judge.proofs.DecisionLaws.{known-markable}
 use Rattle.protocol.specs.Step.{execute}
 use borrow.Author.Needs.{needs}
-use Rattle.perform.proofs.perform_mark.Statement.{statement}
-use Rattle.perform.proofs.perform_mark.Tie as tie
+use Rattle.store.proofs.perform_mark.Statement.{statement}
+use Rattle.store.proofs.perform_mark.Tie as tie
 
 enum-known-decision : tie.Need-enum-known-decision
 enum-known-decision c = search needs

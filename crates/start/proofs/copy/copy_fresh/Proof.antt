@@ -7,8 +7,8 @@ use Rattle.field.specs.Choice.{pick}
 use Rattle.soundness.specs.Sound.{largeEnough}
 use Rattle.protocol.specs.Copy.{copyFreshStart}
 use borrow.Author.Needs.{needs}
-use Rattle.client.proofs.copy_fresh.Statement.{statement}
-use Rattle.client.proofs.copy_fresh.Tie as tie
+use Rattle.start.proofs.copy.copy_fresh.Statement.{statement}
+use Rattle.start.proofs.copy.copy_fresh.Tie as tie
 
 unsound-requires : tie.Need-unsound-requires
 unsound-requires c κs = search needs

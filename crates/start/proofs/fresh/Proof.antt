@@ -5,8 +5,8 @@ use Rattle.field.specs.Choice.{pick}
 use Rattle.soundness.specs.Sound.{largeEnough}
 use Rattle.protocol.specs.Step.{freshStart}
 use borrow.Author.Needs.{needs}
-use Rattle.server.proofs.fresh.Statement.{statement}
-use Rattle.server.proofs.fresh.Tie as tie
+use Rattle.start.proofs.fresh.Statement.{statement}
+use Rattle.start.proofs.fresh.Tie as tie
 
 unsound-requires : tie.Need-unsound-requires
 unsound-requires c κs = search needs
