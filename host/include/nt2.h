@@ -35,10 +35,10 @@ enum {
 /* Numbers that a call answers with. */
 enum {
     NT2_DONE = 0,
-    NT2_INCOMPLETE = 1,         /* message or value not complete */
+    NT2_INCOMPLETE = 1,         /* message, value or record not complete */
     NT2_NO_SUCH_CONNECTION = 2, /* connection number above 15 */
     NT2_STATE = 3,              /* connection state does not allow this */
-    NT2_KIND = 4,               /* message kind unknown, or not for this end */
+    NT2_KIND = 4,               /* kind of a message or record unknown, or not for this end */
     NT2_ASSIGNMENT_ID = 5,      /* assignment ID not the one allowed */
     NT2_UNKNOWN_ID = 6,         /* ID not in the table */
     NT2_TYPE = 7,               /* type unknown */
@@ -222,8 +222,8 @@ nt2_delivered nt2_deliver(nt2_head *heads, size_t heads_length, uint8_t *bytes,
  * refused changes nothing.
  *
  * Bytes of NT2_PLANT are messages too: an assignment with ID 0xFFFF is a call of nt2_create, an update
- * one of nt2_write; their sequence numbers are not looked at. Any other message is refused. With a
- * refusal the bytes that are held are dropped.
+ * one of nt2_write; their sequence numbers are not looked at. Any other message is refused. With
+ * NT2_INCOMPLETE they are held, with another refusal all that are held are dropped.
  *
  * All this is no refusal of the run, nor are bytes held at the end. It is refused with NT2_UNSOUND if
  * memory is too small, which changes nothing; with NT2_KIND at a record of an unknown kind, or with

@@ -38,7 +38,7 @@ wholeExponent = 1075
 
 -- ---- digits
 
--- a Double is written in decimal where it is over 2 ^ 61 at most
+-- a Double is written in decimal where its significand is divided by 2 ^ 61 at most
 abbrev pub mostPlaces : ℕ
 mostPlaces = 61
 
@@ -47,7 +47,7 @@ unfoldable pub binaryDigits : (k r : ℕ) → List ℕ
 binaryDigits zero r = []
 binaryDigits (suc k) r = pick (eqb r 0) [] ((48 + r * 5 / 2 ^ k) ∷ binaryDigits k (r * 5 % 2 ^ k))
 
--- m / 2 ^ k in decimal, whole: `12.5`, `3.0`
+-- m / 2 ^ k in decimal, with all its digits: `12.5`, `3.0`
 unfoldable pub decimalOver : (m k : ℕ) → List ℕ
 decimalOver m k =
     decimalText (m / 2 ^ k) ++ (46 ∷ [])

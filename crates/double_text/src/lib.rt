@@ -15,11 +15,13 @@ const FRACTIONS: usize = 4503599627370496;
 // The exponent of an infinity, and of every NaN.
 const SPECIAL_EXPONENT: usize = 2047;
 
-// The exponent with which a Double is its significand, and the lowest that is written in decimal.
+// The exponent with which a Double is its significand.
 const WHOLE_EXPONENT: usize = 1075;
 
+// The places behind the point of a Double in decimal, at most.
 const MOST_PLACES: usize = 61;
 
+// The lowest exponent of a Double in decimal.
 const LOWEST_DECIMAL: usize = WHOLE_EXPONENT - MOST_PLACES;
 
 // ---- bytes of a value, of which any may be missing
@@ -76,7 +78,7 @@ fn put_binary(text: &mut [u8], at: usize, k: usize, r: usize) -> usize
     end
 }
 
-// m / 2 ^ k in decimal, whole.
+// m / 2 ^ k in decimal, with all its digits.
 fn put_decimal_over(text: &mut [u8], at: usize, m: usize, k: usize) -> usize
     requires { ⌜ k ≤ mostPlaces ⌝ }
     ensures { λ r. ⌜ Put (now (text .entry)) at (decimalOver m k) (now (text .exit)) r ⌝ }

@@ -23,7 +23,7 @@ ghost use Rattle.judge.specs.Decision.{verdictOf, Performable};
 ghost use Rattle.line_record.specs.Effect.{effectOf, longestOutput, withOutput, withoutOutput};
 ghost use Rattle.effect.specs.Lent.{effected};
 
-// 01's number, and the bytes of the message that were taken.
+// The number of the answer, and the bytes of the message that were taken.
 pub struct Outcome {
     pub number: u8,
     pub taken: usize,

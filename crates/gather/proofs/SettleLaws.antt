@@ -19,12 +19,9 @@ use Rattle.protocol.specs.Kept.{SoundMemory}
 use Rattle.line_record.specs.Effect.{Effect}
 use Rattle.line_record.specs.Held.{messageEffect, Kept, Settled, keeping, isClosed, leaving, settle}
 use Rattle.line_record.proofs.HeldLaws.{effect-sound, effect-takes}
+use Rattle.line_record.proofs.RunLaws.{no-bytes}
 
 -- ---- one message
-
-no-bytes : (held : List ℕ) → length held ≡ 0 → held ≡ []
-no-bytes [] e = refl
-no-bytes (x ∷ xs) e = absurd (omega arith)
 
 -- nothing is left
 spent : (most limit : ℕ) (mem : ServerMemory) (c : ℕ) (held : List ℕ) → length held ≡ 0 → settle most limit mem c held .kept ≡ keeping mem held

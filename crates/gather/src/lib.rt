@@ -128,7 +128,8 @@ pub fn gather(
     arrived: &[u8],
 ) -> usize
     requires sound { ⌜ SoundMemory maxEntries (lentServer heads bytes (now count) marks) ⌝ }
-    requires room { ⌜ (size ≤ longestIncomplete) × (length (now arrived) ≤ maxArrived) × (length (now slot) ≡ longestIncomplete + maxArrived) ⌝ }
+    requires room { ⌜ (size ≤ longestIncomplete) × (length (now arrived) ≤ maxArrived)
+        × (length (now slot) ≡ longestIncomplete + maxArrived) ⌝ }
     ensures kept { λ r.
         ⌜ keeping (lentServer (heads .exit) (bytes .exit) (now (count .exit)) (marks .exit)) (take r (now (slot .exit)))
         ≡ gather maxEntries (lentServer (heads .entry) (bytes .entry) (now (count .entry)) (marks .entry)) c

@@ -1,4 +1,4 @@
--- Records and replays, computed: what stands at the start of some bytes, what whole records come to, and demand 3 at one of them.
+-- Records and replays, computed: what stands at the start of some bytes, and what whole records come to.
 use mathlib.Core.Path.{_≡_, refl}
 use mathlib.Core.List.{List, [], _∷_, _++_}
 use mathlib.Core.Bool.{true, false}
@@ -11,7 +11,7 @@ use Rattle.utf8.specs.Utf8.{afterFirst, afterByte, utf8From, isUtf8}
 use Rattle.text.specs.Text.{parseText}
 use Rattle.value.specs.Value.{knownType, parseBoolean, parseElement, countFits, elements, parseArray, parseValue, parseLone}
 use Rattle.scalar.specs.Scalar.{equalValues}
-use Rattle.message.specs.Layout.{Entry, assignmentBytes, updateBytes, revisionBytes}
+use Rattle.message.specs.Layout.{assignmentBytes, updateBytes, revisionBytes}
 use Rattle.reader.specs.Reader.{parseTextAt, parseValueAt}
 use Rattle.message.specs.Reader.{parseBehindId, parseAfterName, parseAssignment, parseBehindUpdateId, parseUpdate}
 use Rattle.writer.specs.Writer.{checkName}

@@ -14,7 +14,7 @@ use borrow.Author.Tests.{le-leb, lt-leb, eq-eqb, ne-eqb}
 use Rattle.field.specs.Answer.{done}
 use Rattle.field.specs.Choice.{pick, demand}
 use Rattle.field.proofs.ChoiceLaws.{pick-true, pick-false}
-use Rattle.protocol.specs.Step.{ServerMemory, LentCall, freshStart}
+use Rattle.protocol.specs.Step.{LentCall, freshStart}
 use Rattle.line_record.specs.Record.{recordHeadSize, dataSize}
 use Rattle.line_record.specs.Replay.{RunState, runState, Advanced, advanceOn, advance, Ran, stopped, behind, run, noneHeld, replay}
 use Rattle.line_record.specs.Calls.{RunInPieces, ReplayInPieces, AdvanceLooksAt}
@@ -82,8 +82,8 @@ run-enough limit (suc most) (suc more) s bytes a b =
 
 -- ---- in pieces
 
-pub advance-piece : AdvanceLooksAt
-advance-piece limit s bytes = ap (advanceOn limit s) (looks-at (recordHeadSize + dataSize (getD bytes 0 0)) bytes (omega arith))
+pub advance-looks-at : AdvanceLooksAt
+advance-looks-at limit s bytes = ap (advanceOn limit s) (looks-at (recordHeadSize + dataSize (getD bytes 0 0)) bytes (omega arith))
 
 behind-none : (r : Ran) → behind 0 [] r ≡ r
 behind-none r = rw (zero-add (r .records))

@@ -116,7 +116,7 @@ connectionOf (opens c) = c
 connectionOf (leaves c) = c
 connectionOf (came c arrived) = c
 
--- "it gathers bytes for each connection", "drops that connection's held bytes": a record changes what no other connection holds
+-- "it gathers bytes for each connection", "drops that connection's held bytes": a record does not change what any other connection holds
 abbrev pub OthersHeld : Type 0
 OthersHeld =
     (limit : ℕ) (s : RunState) (r : Record) (d : ℕ) → d ≢ connectionOf r → getD (stepRecord limit s r .state .held) d [] ≡ getD (s .held) d []

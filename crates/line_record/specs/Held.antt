@@ -83,7 +83,8 @@ settle (suc most) limit mem c held =
     demandBytes 1 held (settled mem [] [])
     -- "or it answers 1"
     (pick (eqb (r .number) incomplete) (settled (r .memory) held calls)
-    -- "A refused message other than 1 drops that connection's held bytes and, for 0 to 15, makes it leave."
+    -- "A refused message other than 1 drops that connection's held bytes and, for 0 to 15, makes it leave.";
+    -- of the plant's own code "its bytes are dropped and the run goes on"
     (demand (goesOn (r .number)) (settled (memoryAfterRun limit (r .memory) (leaving c)) [] (calls ++ leaving c))
     -- "a hello for another revision drops them too": it closes the connection
     (pick (isClosed (r .memory .marks) c) (settled (r .memory) [] calls)

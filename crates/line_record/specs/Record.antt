@@ -7,6 +7,7 @@ use lib.Dec.{leb, eqb}
 use Rattle.field.specs.Answer.{incomplete, unknownKind}
 use Rattle.field.specs.Choice.{pick, demand}
 use Rattle.field.specs.Field.{demandBytes}
+use Rattle.soundness.specs.Sound.{connections}
 
 -- "Kind 1: a connection opens (1 byte). Kind 2: it leaves (1 byte). Kinds 64 to 127: a connection byte and kind minus 63 bytes that came in."
 pub data Record : Type 0 where
@@ -34,7 +35,7 @@ mostDataKind = 127
 
 -- "Connection 16 is the plant's own code"
 abbrev pub plantConnection : ℕ
-plantConnection = 16
+plantConnection = connections
 
 -- 0 to 15, and the plant's own code
 abbrev pub recordedConnections : ℕ

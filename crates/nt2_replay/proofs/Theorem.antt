@@ -1,5 +1,5 @@
 -- Demand 3 of an exported replay: on the numbers of the heads it is the replay's own.
-use mathlib.Core.Path.{_≡_, ap, _∙_}
+use mathlib.Core.Path.{ap, _∙_}
 use mathlib.Core.List.{[], append-nil}
 use Rattle.table.specs.Table.{maxEntries}
 use Rattle.protocol.specs.Run.{memoryAfterRun}

@@ -12,6 +12,7 @@ use Rattle.protocol.specs.Step.{ServerMemory, LentCall}
 use Rattle.line_record.specs.Record.{Record, NextRecord, refusedRecord, found, nextRecord}
 use Rattle.line_record.specs.Replay.{RunState, stepRecord, advanceOn, advance, Ran, stopped, behind, run, ReplayResult, resultOf}
 use Rattle.line_record.proofs.NextLaws.{advance-done}
+use Rattle.line_record.proofs.AnsweredLaws.{record-refused}
 use Rattle.line_record.proofs.RunLaws.{run-spent, run-refused, run-on}
 use Rattle.replay.specs.declared.Progress.{Progress}
 use Rattle.slots.specs.Slots.{stateIn, ReadyIn}
@@ -32,12 +33,6 @@ module _ (s : RunState) (bytes : List ℕ) where
 -- one that is done takes bytes
 advance-takes : (s : RunState) (bytes : List ℕ) → advance maxEntries s bytes .number ≡ done → 1 ≤ advance maxEntries s bytes .size
 advance-takes s bytes e = omega (arith, advance-done maxEntries s bytes e .size-is)
-
--- one that is not changes nothing
-pub advance-stays : (s : RunState) (n : NextRecord) → (advanceOn maxEntries s n .number ≡ done → ⊥) → advanceOn maxEntries s n .state ≡ s
-unfolding advanceOn
-advance-stays s (refusedRecord number) ne = refl
-advance-stays s (found r size) ne = absurd (ne refl)
 
 -- ---- the run
 
@@ -91,7 +86,7 @@ module _ {s₀ : RunState} {bytes : List ℕ} {mem : ServerMemory} {sizes slots 
     pub ran-refused : (r .number ≡ done → ⊥) → record { number = r .number; records = records; memory = mem′ } ≡ resultOf (run (length bytes) maxEntries s₀ bytes)
     ran-refused ne =
         let other : advance maxEntries (stateIn mem sizes slots) (drop at bytes) .number ≡ done → ⊥ = λ e. ne (p .number ∙ e) in
-        let same : mem′ ≡ mem = ap (λ (s : RunState). s .memory) (p .state ∙ advance-stays (stateIn mem sizes slots) (nextRecord (drop at bytes)) other) in
+        let same : mem′ ≡ mem = ap (λ (s : RunState). s .memory) (p .state ∙ record-refused maxEntries (stateIn mem sizes slots) (drop at bytes) other .0) in
         rw (same, p .number) (stopped-at _ (from-one _ (run-refused (l .most - 1) maxEntries (stateIn mem sizes slots) (drop at bytes) left other)))
 
     pub takes-some : r .number ≡ done → 1 ≤ r .size

@@ -16,9 +16,6 @@ ghost use Rattle.replay.specs.Lent.{nextOf, NextFits, ProgressIs, replay
 
 // ---- what is recorded
 
-// The plant's own code.
-const PLANT: usize = 16;
-
 const LEAST_DATA: u8 = 64;
 
 const MOST_DATA: u8 = 127;
@@ -62,7 +59,7 @@ fn known_connection(kind: u8, c: usize) -> bool
     ensures { λ r. ⌜ r ≡ knownConnection kind c ⌝ }
 {
     if is_data(kind) {
-        return c <= PLANT;
+        return c <= slots::PLANT;
     }
     true
 }
@@ -159,7 +156,7 @@ pub fn advance(
 
 // ---- the run
 
-// What a run answers: 01's number, and how many records were done.
+// What a run answers: its number, and how many records were done.
 #[repr(C)]
 pub struct Replayed {
     pub number: u8,

@@ -11,13 +11,13 @@ use Rattle.table.specs.Table.{maxEntries, headSize, entrySize, entriesOf}
 use Rattle.soundness.specs.Sound.{connections}
 use Rattle.protocol.specs.Step.{ServerMemory, StartResult, freshStart}
 use Rattle.protocol.proofs.DoneLaws.{fresh-start-done}
-use Rattle.line_record.specs.Record.{recordHeadSize, dataSize, nextRecord, recordedConnections}
-use Rattle.line_record.specs.Replay.{RunState, Advanced, advance, Ran, stopped, behind, run, replay, ReplayResult, resultOf}
+use Rattle.line_record.specs.Record.{recordHeadSize, dataSize, recordedConnections}
+use Rattle.line_record.specs.Replay.{RunState, Advanced, advance, Ran, stopped, behind, run, replay, resultOf}
 use Rattle.line_record.proofs.NextLaws.{advance-done}
-use Rattle.line_record.proofs.RunLaws.{run-spent, run-refused, run-on, advance-piece, run-in-pieces}
+use Rattle.line_record.proofs.AnsweredLaws.{record-refused}
+use Rattle.line_record.proofs.RunLaws.{run-spent, run-refused, run-on, advance-looks-at, run-in-pieces}
 use Rattle.replay.specs.declared.Progress.{Progress}
 use Rattle.replay.specs.Lent.{ProgressIs}
-use Rattle.replay.proofs.RunLaws.{advance-stays}
 use Rattle.replay.proofs.StartLaws.{replay-ran}
 use Rattle.slots.specs.Slots.{stateIn}
 use Rattle.digits.specs.Put.{Put}
@@ -52,7 +52,7 @@ module _ {s₀ s : RunState} (h : Runs s₀ done s) (p : List ℕ) (some : 1 ≤
 -- a piece that is exactly a record
 module _ {s₀ s : RunState} (h : Runs s₀ done s) (p : List ℕ) (is-done : advance maxEntries s p .number ≡ done) where
   same : advance maxEntries s (take (recordHeadSize + dataSize (getD p 0 0)) p) ≡ advance maxEntries s p
-  same = advance-piece maxEntries s p
+  same = advance-looks-at maxEntries s p
 
   long : length (take (recordHeadSize + dataSize (getD p 0 0)) p) ≡ recordHeadSize + dataSize (getD p 0 0)
   long = let a = advance-done maxEntries s p is-done in length-take-le (recordHeadSize + dataSize (getD p 0 0)) p (omega (arith, a .size-is, a .there))
@@ -75,7 +75,7 @@ module _ {s₀ s : RunState} (h : Runs s₀ done s) (p : List ℕ) (r : Progress
   pub piece-refused : 1 ≤ length p → r .number ≢ done → Runs s₀ (r .number) s′
   piece-refused some ne =
       let other : advance maxEntries s p .number ≢ done = λ d. ne (e .number ∙ d) in
-      rw (e .number, e .state ∙ advance-stays s (nextRecord p) other) (runs-refused h p some other)
+      rw (e .number, e .state ∙ record-refused maxEntries s p other .0) (runs-refused h p some other)
 
   pub piece-done : r .number ≡ done → Runs s₀ done s′
   piece-done d = rw (e .state) (runs-on h p (sym (e .number) ∙ d))

@@ -1,4 +1,4 @@
-// Reads a line record from standard input, runs it again, and writes the table at its end to standard output. The record may have any length:
+// Reads a line record from standard input, runs it again, and writes the table at its end to standard output. It may have any length:
 // it is read and done one record at a time.
 use field::DONE;
 use replay::RECORD_HEAD_SIZE;
@@ -15,7 +15,7 @@ ghost use Rattle.replay_main.specs.Shown.{Runs, Shows};
 // The longest record.
 const PIECE_SIZE: usize = RECORD_HEAD_SIZE + gather::MAX_ARRIVED;
 
-// Room for 64 lines, each with at most 258 bytes of a name in quotes, 2,015 of a value and 19 of the rest, and for a line with the number of a refusal.
+// Room for 64 lines, each with at most 258 bytes of a name in quotes, 2,015 of a value and 19 of the rest, and for a refusal's line.
 const TEXT_SIZE: usize = 146700;
 
 // Reads one record, or what is there of it, and returns how many bytes.
@@ -31,7 +31,8 @@ fn read_piece(piece: &mut [u8]) -> usize
     RECORD_HEAD_SIZE + io::read_full(0, &mut piece[RECORD_HEAD_SIZE..end])
 }
 
-// Does record after record, until the input ends or one is refused, and returns its number. Every loop has to end: this one would after 2^64 records.
+// Does record after record, until the input ends or one is refused, and returns its number. Every loop has to end: this one would
+// after 2^64 records.
 fn run_input(
     heads: &mut [u16],
     bytes: &mut [u8],

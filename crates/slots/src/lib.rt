@@ -19,8 +19,11 @@ ghost use Rattle.line_record.specs.Record.{came, opensKind, leavesKind, recordO
 ghost use Rattle.line_record.specs.Replay.{stepRecord};
 ghost use Rattle.slots.specs.Slots.{stateOf, Ready};
 
+// The plant's own code.
+pub const PLANT: usize = soundness::CONNECTIONS;
+
 // Connections 0 to 15, and the plant's own code.
-pub const RECORDED_CONNECTIONS: usize = 17;
+pub const RECORDED_CONNECTIONS: usize = PLANT + 1;
 
 // A slot for each.
 pub const SLOTS_SIZE: usize = SLOT_SIZE * RECORDED_CONNECTIONS;

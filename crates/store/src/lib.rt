@@ -83,7 +83,7 @@ pub fn add_entry(
     *count = id + 1;
 }
 
-// It, and its assignment to all greeted connections.
+// A new entry, and its assignment to all greeted connections.
 pub fn store_new(
     heads: &mut [u16],
     bytes: &mut [u8],

@@ -32,7 +32,7 @@ unfoldable pub quotedBytes : List ℕ → List ℕ
 quotedBytes [] = []
 quotedBytes (b ∷ s) = quotedByte b ++ quotedBytes s
 
--- a text in quotes, in which no byte can be mistaken for the end of a word or line
+-- a text in quotes, in which no byte can be mistaken for the end of the text or the line
 abbrev pub quoted : List ℕ → List ℕ
 quoted s = (34 ∷ []) ++ quotedBytes s ++ (34 ∷ [])
 
@@ -73,7 +73,7 @@ typeWord type = pick (ltb type arrayOf) (elementWord type) (elementWord (type - 
 
 -- ---- lines
 
--- "a line per entry: ID, name, type, number, value"
+-- a line for each entry: ID, name, type, number, value
 unfoldable pub entryText : (id : ℕ) → Entry → List ℕ
 entryText id e =
     decimalText id ++ space ++ quoted (e .name) ++ space ++ typeWord (e .type) ++ space ++ decimalText (e .number) ++ valueTexts (e .type) (e .value) ++ newline
@@ -83,7 +83,7 @@ unfoldable pub entriesText : (id : ℕ) → List Entry → List ℕ
 entriesText id [] = []
 entriesText id (e ∷ es) = entryText id e ++ entriesText (suc id) es
 
--- `refused` "with the number where it was refused"
+-- `refused`, with the number where a record was refused
 unfoldable pub refusedText : (number : ℕ) → List ℕ
 refusedText number =
     pick (eqb number done) [] ((114 ∷ 101 ∷ 102 ∷ 117 ∷ 115 ∷ 101 ∷ 100 ∷ 32 ∷ []) ++ decimalText number ++ newline)

@@ -47,8 +47,9 @@ impl ServerTable {
     /// code wrote, whose connection is [`PLANT`](crate::PLANT). The plant's assignments, with the ID
     /// 0xFFFF, are run as [`create`](Self::create), its updates as [`write`](Self::write).
     ///
-    /// A message, opening or leaving that is refused is no refusal of a record. The message's
-    /// connection leaves, and the bytes that came in behind it are dropped.
+    /// Bytes of a message that is not complete are held until more came in. A message, opening or
+    /// leaving that is refused is no refusal of a record: the bytes that came in behind the message
+    /// are dropped, and a client's connection leaves.
     pub fn replay(&mut self, record: &[u8]) -> Replay {
         Replay::of(lent::replay(self.memory.lend(), &mut self.marks, record))
     }

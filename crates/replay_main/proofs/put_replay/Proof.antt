@@ -1,7 +1,6 @@
--- `put_replay` puts the text of some record, the bytes that were read.
-use mathlib.Core.Path.{_≡_, sym, ap, _∙_}
+-- `put_replay` puts the text of some record: the pieces that it read, one behind the other.
+use mathlib.Core.Path.{_≡_, ap, _∙_}
 use mathlib.Core.List.{[]}
-use Prim.Native.Nat.{ℕ}
 use Rattle.field.specs.Answer.{done}
 use Rattle.answer.specs.declared.Answer.{Answer}
 use Rattle.table.specs.Table.{maxEntries}

@@ -1,17 +1,14 @@
--- `run_input` runs some record, the pieces that were read, from the state that it was lent.
-use mathlib.Core.Path.{_≡_, refl, sym, ap, _∙_}
+-- `run_input` runs some record from the state that it was lent: the pieces that it read, one behind the other.
+use mathlib.Core.Path.{_≡_, refl, _∙_}
 use mathlib.Core.List.{List}
-use Prim.Native.Nat.{ℕ, _+_, _-_, _≤_, _<_}
+use Prim.Native.Nat.{ℕ, _-_, _≤_}
 use native.Mathlib.Omega.{arith}
-use lib.ListN.{length, take, drop, length-drop}
+use lib.ListN.{length, take, drop}
 use lib.Seq.{length-take-le}
 use borrow.Author.Needs.{needs}
 use Rattle.field.specs.Answer.{done}
-use Rattle.table.specs.Table.{maxEntries}
 use Rattle.protocol.specs.Step.{ServerMemory}
 use Rattle.protocol.specs.Lent.{serverMemory}
-use Rattle.line_record.specs.Replay.{advance}
-use Rattle.replay.specs.Lent.{ProgressIs}
 use Rattle.slots.specs.Slots.{stateIn, ReadyIn}
 use Rattle.replay_main.specs.Shown.{Runs}
 use Rattle.replay_main.proofs.ShownLaws.{runs-nothing, piece-refused, piece-done}
