@@ -4,9 +4,11 @@ use field::Number;
 use field::UNKNOWN_ID;
 use message::UpdateRead;
 ghost use mathlib.Core.Path.{_≡_};
+ghost use mathlib.Core.Bool.{_&&_};
 ghost use mathlib.Core.List.{List};
 ghost use Prim.Native.Nat.{ℕ, _+_, _*_, _≤_, _<_};
-ghost use lib.ListN.{length};
+ghost use lib.ListN.{length, drop};
+ghost use Rattle.field.specs.Octets.{bytesEqual};
 ghost use Rattle.table.specs.Names.{holder};
 ghost use Rattle.table.specs.Table.{headSize, nameLengthField, valueLengthField};
 ghost use Rattle.table.specs.Table.{headField, HasHead, HasName, HasValue, entryAt};
@@ -99,6 +101,40 @@ pub fn value_of<'a>(heads: &[u16], bytes: &'a [u8], i: usize) -> &'a [u8]
 
 // ---- the search, and an update of what is held
 
+// The bytes of names that are compared first.
+const FRONT: usize = 16;
+
+// Whether two names begin alike: a fixed number of bytes, which the compiler compares at once.
+fn same_front(held: &[u8], name: &[u8]) -> bool
+    requires { ⌜ (16 ≤ length (now held)) × (16 ≤ length (now name)) ⌝ }
+    ensures { λ r.
+        ⌜ bytesEqual (now (held .entry)) (now (name .entry))
+        ≡ (r && bytesEqual (drop 16 (now (held .entry))) (drop 16 (now (name .entry)))) ⌝ }
+{
+    let mut equal = true;
+    let mut k = 0;
+    while k < FRONT {
+        equal = field::still_equal(equal, held[k], name[k]);
+        k += 1;
+    }
+    equal
+}
+
+// Whether two names are equal. Most that are as long differ in their first bytes.
+fn same_name(held: &[u8], name: &[u8]) -> bool
+    ensures { λ r. ⌜ r ≡ bytesEqual (now (held .entry)) (now (name .entry)) ⌝ }
+{
+    if held.len() != name.len() {
+        return false;
+    }
+    if name.len() >= FRONT {
+        if !same_front(held, name) {
+            return false;
+        }
+    }
+    field::same_bytes(held, name)
+}
+
 // The ID of the first of so many entries whose name is equal, or their count where there is none.
 pub fn find_name(heads: &[u16], bytes: &[u8], count: usize, name: &[u8]) -> usize
     requires { ⌜ Named count (now heads) (now bytes) ⌝ }
@@ -106,25 +142,13 @@ pub fn find_name(heads: &[u16], bytes: &[u8], count: usize, name: &[u8]) -> usiz
         ⌜ r ≡ holder (now (name .entry)) (entriesOf (lent (heads .entry) (bytes .entry) count)) ⌝ }
 {
     let mut i = 0;
-    let id = 'entries: loop {
-        if i >= count {
-            break 'entries count;
-        }
-        let held = name_of(heads, bytes, i);
-        if held.len() == name.len() {
-            let mut equal = true;
-            let mut k = 0;
-            while k < name.len() {
-                equal = field::still_equal(equal, held[k], name[k]);
-                k += 1;
-            }
-            if equal {
-                break 'entries i;
-            }
+    while i < count {
+        if same_name(name_of(heads, bytes, i), name) {
+            return i;
         }
         i += 1;
-    };
-    id
+    }
+    count
 }
 
 // An update of a held ID, read with its stored type. `bytes` is lent for the contract.
