@@ -15,7 +15,7 @@ ghost use Rattle.line_record.specs.Record.{maxArrived};
 ghost use Rattle.effect.specs.Lent.{effected};
 
 // A message that is not complete has so many bytes at most.
-pub const LONGEST_INCOMPLETE: usize = message::LONGEST_ASSIGNMENT + 1;
+const LONGEST_INCOMPLETE: usize = message::LONGEST_ASSIGNMENT + 1;
 
 // The bytes that come in with one record at most.
 pub const MAX_ARRIVED: usize = 64;

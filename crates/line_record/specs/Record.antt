@@ -45,7 +45,11 @@ recordedConnections = plantConnection + 1
 abbrev pub recordHeadSize : ℕ
 recordHeadSize = 2
 
--- "kind minus 63 bytes that came in": at most 64
+-- "kind minus 63 bytes that came in"
+abbrev pub dataKindBase : ℕ
+dataKindBase = 63
+
+-- at most
 abbrev pub maxArrived : ℕ
 maxArrived = 64
 
@@ -57,7 +61,7 @@ knownKind kind = eqb kind opensKind || eqb kind leavesKind || isData kind
 
 -- "a body of that kind's length", behind the connection byte
 unfoldable pub dataSize : (kind : ℕ) → ℕ
-dataSize kind = pick (isData kind) (kind - 63) 0
+dataSize kind = pick (isData kind) (kind - dataKindBase) 0
 
 -- "4 for .. a connection byte above 16 in a data record"
 unfoldable pub knownConnection : (kind c : ℕ) → Bool

@@ -20,6 +20,9 @@ const LEAST_DATA: u8 = 64;
 
 const MOST_DATA: u8 = 127;
 
+// A data record has as many bytes as its kind is above this.
+const DATA_KIND_BASE: u8 = 63;
+
 // A kind byte and a connection byte.
 pub const RECORD_HEAD_SIZE: usize = 2;
 
@@ -50,7 +53,7 @@ pub fn data_size(kind: u8) -> usize
     ensures few { λ r. ⌜ r ≤ maxArrived ⌝ }
 {
     if is_data(kind) {
-        return (kind - 63) as usize;
+        return (kind - DATA_KIND_BASE) as usize;
     }
     0
 }

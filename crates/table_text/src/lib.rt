@@ -228,7 +228,7 @@ fn put_entry(heads: &[u16], bytes: &[u8], i: usize, text: &mut [u8], at: usize) 
 }
 
 // The number where a run was refused; nothing where it was not.
-pub fn put_refused(text: &mut [u8], at: usize, number: u8) -> usize
+fn put_refused(text: &mut [u8], at: usize, number: u8) -> usize
     ensures { λ r. ⌜ Put (now (text .entry)) at (refusedText number) (now (text .exit)) r ⌝ }
 {
     if number == DONE {
