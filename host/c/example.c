@@ -424,7 +424,7 @@ static const uint8_t unsupported[] = {NT2_UNSUPPORTED, 0x02, 0x00};
 static void copy_follows(table server, table copy, block *out) {
     static const char name[] = "lot/3/parents";
     static const uint8_t parents[] = "\002\000\005lot/1\000\005lot/2";
-    static const uint8_t zero[8] = {0}, one[8] = {0x3F, 0xF0};
+    static const uint8_t zero[8] = {0}, minus_zero[8] = {0x80}, one[8] = {0x3F, 0xF0};
     const size_t name_length = sizeof name - 1, length = sizeof parents - 1;
     const size_t assignment = 8 + name_length + length;
     nt2_answer a;
@@ -443,6 +443,9 @@ static void copy_follows(table server, table copy, block *out) {
 
     a = create(server, name, 3, NT2_DOUBLE, zero, 8, out, 8 + 3 + 8);
     CHECK(answers(a, NT2_DONE, 0, 8 + 3 + 8, 1 << 5));
+    feed(copy, out->bytes, a.sent);
+    a = write_value(server, 1, minus_zero, 8, out, 5 + 8);
+    CHECK(answers(a, NT2_DONE, 0, 5 + 8, 1 << 5));
     feed(copy, out->bytes, a.sent);
     a = write_value(server, 1, one, 8, out, 5 + 8);
     CHECK(answers(a, NT2_DONE, 0, 5 + 8, 1 << 5));

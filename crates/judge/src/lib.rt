@@ -302,7 +302,7 @@ pub fn judge_write(heads: &[u16], bytes: &[u8], count: u16, id: u16, value: &[u8
     let Parsed::Taken(_) = checked_value else {
         return WriteDecision::Refuse(fault_of(checked_value));
     };
-    if scalar::same_value(type_code, table::value_of(heads, bytes, i), value) {
+    if scalar::same_value(table::value_of(heads, bytes, i), value) {
         return WriteDecision::Ignore;
     }
     let stored = table::number_of(heads, i);

@@ -1,31 +1,42 @@
 -- Demand 2: a client's message changes a held entry only by an update with a strictly greater number; what is not greater is ignored.
 use mathlib.Core.Path.{_≡_, refl, sym, ap, _∙_}
 use mathlib.Core.Logic.{_≢_}
-use mathlib.Core.Bool.{true, false}
+use mathlib.Core.Bool.{true, false, and-eq-true-iff}
 use mathlib.Core.List.{List, [], _∷_, _++_}
 use Prim.Native.Nat.{ℕ, _<_}
 use native.Mathlib.Decide.{ℕ-discrete}
 use native.Mathlib.Omega.{arith}
 use lib.ListN.{length, getD, set, List·getD-append}
 use lib.Seq.{getD-at, getD-set-same, getD-set-other}
+use Rattle.field.specs.Answer.{RefusalNumber}
 use Rattle.field.specs.Choice.{pick}
+use Rattle.field.specs.Field.{andThen}
+use Rattle.field.specs.declared.Parsed.{Parsed}
+use Rattle.field.specs.declared.Parsed.the-variants.{Refused, Taken}
 use Rattle.field.proofs.ChoiceLaws.{by-test}
-use Rattle.sequence.specs.SequenceNumber.{passedBy}
-use borrow.Author.Tests.{lt-ltb}
+use Rattle.sequence.specs.SequenceNumber.{passedBy, nextNumber}
+use borrow.Author.Tests.{lt-ltb, ltb-true}
 use Rattle.value.specs.Value.{IsValue}
-use Rattle.value.proofs.ValueLaws.{lone-taken}
+use Rattle.value.proofs.ValueLaws.{lone-taken, LoneIs, lone-is}
+use Rattle.scalar.specs.Scalar.{equalValues}
+use Rattle.scalar.specs.Comparisons.{EqualWhenSame}
+use Rattle.scalar.proofs.Comparisons.{equal-exactly}
 use Rattle.protocol.proofs.SoundnessLaws.{step-is}
 use Rattle.message.specs.Layout.{Entry, Message, keepAlive, assignment, update, layout, WellFormed}
 use Rattle.message.specs.Reader.{BeginsWith}
+use Rattle.message.proofs.RefusalLaws.{refusal-number, RefusedRightly, lone-rightly}
 use Rattle.table.specs.Names.{nameHeld}
 use Rattle.table.specs.Table.{TableMemory, defaultEntry, entriesOf, storeEntry, storeValue, entryOf, withUpdate}
 use Rattle.table.proofs.TabulateLaws.{length-entries, entry-get}
 use Rattle.table.proofs.StoreLaws.{withNumberAndValue}
+use Rattle.soundness.specs.Sound.{soundTable, soundMarks}
 use Rattle.soundness.proofs.StoredLaws.{stored-new, stored-value}
+use Rattle.recipients.specs.Recipients.{allGreeted}
 use Rattle.protocol.specs.Judge.{localWrite, Verdict, refuse, ignore, acceptHello, unsupportedRevision, storeNew, storeUpdate, newId, newEntry, judgeWrite, judge}
-use Rattle.protocol.specs.Step.{ServerMemory, CallResult, execute}
+use Rattle.protocol.specs.Step.{ServerMemory, CallResult, refusal, execute, callStep}
 use Rattle.protocol.specs.Kept.{SoundMemory}
-use Rattle.protocol.specs.Change.{Applied, EntryAfter, applied, CountAfter, one-more, ClientChange, ClientChanges, NotGreaterIgnored, HeldNameIgnored, KeepAliveIgnored, EqualValueIgnored}
+use Rattle.protocol.specs.Change.{Applied, EntryAfter, applied, CountAfter, one-more, ClientChange, ClientChanges, NotGreaterIgnored, HeldNameIgnored, KeepAliveIgnored, EqualValueIgnored, HasValue, WriteHeld}
+use Rattle.protocol.proofs.AnswerLaws.{not-refused}
 use Rattle.protocol.proofs.MessageLaws.{comesTo, Comes, connected, client-step, ClientCall, client-call}
 
 -- ---- entries after a store
@@ -153,3 +164,42 @@ equal-value-ignored limit mem s id value out l w same =
     let b : id < length (entriesOf (mem .table)) = omega (arith, length-entries (mem .table)) in
     step-is limit mem s (record { call = localWrite id value; output = out })
     ∙ rw (lt-ltb _ _ b, ← held (mem .table) id l, lone-taken (entryOf (mem .table) id .type) value w, same)
+
+-- ---- what is written
+
+module _ (limit : ℕ) (mem : ServerMemory) (id : ℕ) (value out : List ℕ) where
+  refused-has : (number : ℕ) → RefusalNumber number → HasValue id value (refusal mem out number)
+  refused-has number n h = absurd (not-refused number n h)
+
+  abbrev there : Entry
+  there = getD (entriesOf (mem .table)) id defaultEntry
+
+  abbrev Has : Verdict → Type 0
+  Has v = HasValue id value (execute mem out v)
+
+  value-has : soundTable limit (mem .table) ≡ true → id < length (entriesOf (mem .table)) → (q : Parsed) → LoneIs (there .type) value q → RefusedRightly q
+      → Has (andThen refuse q (λ _. pick (equalValues (there .type) (there .value) value) (ignore 0) (storeUpdate id (nextNumber (there .number)) value 0 allGreeted)))
+  unfolding execute
+  value-has s h (Refused fault) f (RefusedRightly.refused n) = refused-has (fault .number) n
+  value-has s h (Taken n) (LoneIs.taken b whole) f =
+      by-test Has _ _ _ (λ equal. λ _. ap (λ (e : Entry). e .value) (held (mem .table) id l) ∙ equal-exactly (there .type) (there .value) value .equal-same equal)
+      (λ _. by-test (HasValue id value) _ _ _ (λ _. λ _. ap (λ (e : Entry). e .value) (value-same (mem .table) id (nextNumber (there .number)) value l stored))
+      (λ _. refused-has 12 (refusal-number 12 (omega arith) (omega arith))))
+    where
+      l : id < mem .table .count
+      l = omega (arith, h, length-entries (mem .table))
+
+      stored : entriesOf (storeValue (mem .table) id (nextNumber (there .number)) value) ≡ withNumberAndValue (entriesOf (mem .table)) id (nextNumber (there .number)) value
+      stored = stored-value limit (mem .table) s id (nextNumber (there .number)) value h whole
+
+  write-has : soundTable limit (mem .table) ≡ true → Has (judgeWrite (entriesOf (mem .table)) id value)
+  unfolding judgeWrite execute
+  write-has s =
+      by-test Has _ _ _ (λ h. value-has s (ltb-true _ _ h) _ (lone-is (there .type) value) (lone-rightly (there .type) value))
+      (λ _. refused-has 6 (refusal-number 6 (omega arith) (omega arith)))
+
+pub write-held : WriteHeld
+unfolding callStep judge
+write-held limit mem id value out =
+    by-test (HasValue id value) _ _ _ (λ s. write-has limit mem id value out (and-eq-true-iff (soundTable limit (mem .table)) (soundMarks (mem .marks)) .0 s .0))
+    (λ _. refused-has limit mem id value out 14 (refusal-number 14 (omega arith) (omega arith)))

@@ -3,7 +3,7 @@ use Prim.Native.Nat.{ℕ, _+_, _<_}
 use mathlib.Core.Bool.{true, false}
 use mathlib.Core.List.{List, _∷_, _++_}
 use mathlib.Core.Path.{_≡_}
-use mathlib.Core.Logic.{_≢_}
+use mathlib.Core.Logic.{_≢_, _⊎_}
 use lib.ListN.{length, getD}
 use Rattle.field.specs.Answer.{done, ignored}
 use Rattle.sequence.specs.SequenceNumber.{passedBy}
@@ -87,3 +87,13 @@ EqualValueIgnored =
     → (id : ℕ) (value out : List ℕ) → id < mem .table .count → IsValue (entryOf (mem .table) id .type) value
     → equalValues (entryOf (mem .table) id .type) (entryOf (mem .table) id .value) value ≡ true
     → callStep limit mem (record { call = localWrite id value; output = out }) ≡ ignoredResult mem out 0
+
+-- ---- what is written
+
+-- where a call is done or ignored, the entry's value is this one, byte for byte
+abbrev pub HasValue : ℕ → List ℕ → CallResult → Type 0
+HasValue id value r = (r .number ≡ done) ⊎ (r .number ≡ ignored) → entryOf (r .memory .table) id .value ≡ value
+
+-- what the plant writes is held as it was given: a local write is ignored only where the entry has the same bytes
+abbrev pub WriteHeld : Type 0
+WriteHeld = (limit : ℕ) (mem : ServerMemory) (id : ℕ) (value out : List ℕ) → HasValue id value (callStep limit mem (record { call = localWrite id value; output = out }))

@@ -1,15 +1,18 @@
--- The comparisons of Doubles are computed.
+-- Equal values are the same bytes; the comparisons of Doubles are computed.
 use mathlib.Core.Path.{refl}
-use lib.Ieee.{ofBits, eq}
-use Rattle.field.specs.Choice.{pick}
-use Rattle.field.specs.Octets.{decode16}
-use Rattle.scalar.specs.Scalar.{decode64, equalDouble, equalDoubles, equalValues}
-use Rattle.scalar.specs.Comparisons.{ZerosEqual, NanUnequal}
+use Rattle.field.specs.Octets.{bytesEqual}
+use Rattle.field.proofs.EqualLaws.{bytes-equal-true, equal-bytes}
+use Rattle.scalar.specs.Scalar.{equalValues}
+use Rattle.scalar.specs.Comparisons.{EqualExactly, ZerosDiffer, NansAsBytes}
 
-pub zeros-equal : ZerosEqual
-unfolding ofBits eq pick decode16 decode64 equalDouble equalDoubles equalValues
-zeros-equal = (refl, refl)
+pub equal-exactly : EqualExactly
+unfolding equalValues
+equal-exactly type v w = record { equal-same = bytes-equal-true v w; same-equal = equal-bytes v w }
 
-pub nan-unequal : NanUnequal
-unfolding ofBits eq pick decode16 decode64 equalDouble equalDoubles equalValues
-nan-unequal = (refl, refl)
+pub zeros-differ : ZerosDiffer
+unfolding bytesEqual equalValues
+zeros-differ = (refl, refl)
+
+pub nans-as-bytes : NansAsBytes
+unfolding bytesEqual equalValues
+nans-as-bytes = ((refl, refl), (refl, refl))

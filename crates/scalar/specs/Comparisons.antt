@@ -1,10 +1,18 @@
--- Doubles that "the language's comparison" has equal or not, in values of their own and in arrays.
+-- When two values are equal, and Doubles that the language's comparison answers otherwise.
 use Prim.Native.Nat.{ℕ}
 use mathlib.Core.Bool.{Bool, true, false}
-use mathlib.Core.List.{List, [], _∷_}
+use mathlib.Core.List.{List, [], _∷_, _++_}
 use mathlib.Core.Path.{_≡_}
 use Rattle.value.specs.Value.{double, doubleArray}
 use Rattle.scalar.specs.Scalar.{equalValues}
+
+-- "exactly when": values are equal where they are the same bytes, and only there
+pub record EqualWhenSame (type : ℕ) (v w : List ℕ) : Type 0 where
+  pub equal-same : equalValues type v w ≡ true → v ≡ w
+  pub same-equal : v ≡ w → equalValues type v w ≡ true
+
+abbrev pub EqualExactly : Type 0
+EqualExactly = (type : ℕ) (v w : List ℕ) → EqualWhenSame type v w
 
 abbrev pub plusZero : List ℕ
 plusZero = 0x00 ∷ 0 ∷ 0 ∷ 0 ∷ 0 ∷ 0 ∷ 0 ∷ 0 ∷ []
@@ -15,14 +23,17 @@ minusZero = 0x80 ∷ 0 ∷ 0 ∷ 0 ∷ 0 ∷ 0 ∷ 0 ∷ 0 ∷ []
 abbrev pub aNan : List ℕ
 aNan = 0x7F ∷ 0xF8 ∷ 0 ∷ 0 ∷ 0 ∷ 0 ∷ 0 ∷ 0 ∷ []
 
--- two Doubles are equal or not, alone and as the only elements of arrays
+abbrev pub anotherNan : List ℕ
+anotherNan = 0x7F ∷ 0xF8 ∷ 0 ∷ 0 ∷ 0 ∷ 0 ∷ 0 ∷ 1 ∷ []
+
+-- two Doubles are equal or not, alone and behind an equal element of an array
 abbrev pub Compared : List ℕ → List ℕ → Bool → Type 0
-Compared v w equal = (equalValues double v w ≡ equal) × (equalValues doubleArray (1 ∷ v) (1 ∷ w) ≡ equal)
+Compared v w equal = (equalValues double v w ≡ equal) × (equalValues doubleArray (2 ∷ plusZero ++ v) (2 ∷ plusZero ++ w) ≡ equal)
 
--- the two zeros are equal
-abbrev pub ZerosEqual : Type 0
-ZerosEqual = Compared plusZero minusZero true
+-- minus zero is not equal to plus zero
+abbrev pub ZerosDiffer : Type 0
+ZerosDiffer = Compared plusZero minusZero false
 
--- a NaN is not equal to itself
-abbrev pub NanUnequal : Type 0
-NanUnequal = Compared aNan aNan false
+-- a NaN is equal to itself, and not to another one
+abbrev pub NansAsBytes : Type 0
+NansAsBytes = Compared aNan aNan true × Compared aNan anotherNan false

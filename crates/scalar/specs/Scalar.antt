@@ -1,14 +1,13 @@
 -- Doubles as numbers: the scalar that a value is, and when two values are equal.
-use Prim.Native.Nat.{ℕ, zero, suc, _+_, _*_}
-use mathlib.Core.Bool.{Bool, true, _&&_}
+use Prim.Native.Nat.{ℕ, _+_, _*_}
+use mathlib.Core.Bool.{Bool}
 use mathlib.Core.List.{List}
 use lib.ListN.{drop, getD}
 use lib.Dec.{eqb}
-use lib.Ieee as Ieee
 use lib.Ieee.{Float, binary64, ofBits}
 use Rattle.field.specs.Choice.{pick}
 use Rattle.field.specs.Octets.{decode16, bytesEqual}
-use Rattle.value.specs.Value.{boolean, double, doubleArray, trueByte, doubleSize, countSize}
+use Rattle.value.specs.Value.{boolean, double, trueByte}
 use Rattle.scalar.specs.declared.Scalar as D
 use Rattle.scalar.specs.declared.Scalar.the-variants.{Boolean, Double, Neither}
 
@@ -25,19 +24,7 @@ unfoldable pub scalarOf : ℕ → List ℕ → D.Scalar
 scalarOf type value =
     pick (eqb type boolean) (Boolean (eqb (getD value 0 0) trueByte)) (pick (eqb type double) (Double (doubleOf value)) Neither)
 
--- "Two Doubles are equal when the language's comparison says so"
-unfoldable pub equalDouble : List ℕ → List ℕ → Bool
-equalDouble v w = Ieee.eq (doubleOf v) (doubleOf w)
-
--- "arrays element by element": so many elements
-unfoldable pub equalDoubles : ℕ → List ℕ → List ℕ → Bool
-equalDoubles zero v w = true
-equalDoubles (suc count) v w = equalDouble v w && equalDoubles count (drop doubleSize v) (drop doubleSize w)
-
--- "other values by their bytes"
+-- "two Doubles are equal exactly when their eight bytes are equal, in arrays too", and "other values by their bytes":
+-- values of a type, whichever it is, by their encoded bytes
 unfoldable pub equalValues : ℕ → List ℕ → List ℕ → Bool
-equalValues type v w =
-    pick (eqb type double) (equalDouble v w)
-    (pick (eqb type doubleArray)
-    (eqb (getD v 0 0) (getD w 0 0) && equalDoubles (getD v 0 0) (drop countSize v) (drop countSize w))
-    (bytesEqual v w))
+equalValues type v w = bytesEqual v w

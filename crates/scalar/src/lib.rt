@@ -1,16 +1,13 @@
 // Doubles as numbers: the scalar that a value is, and when two values are equal.
 use value::BOOLEAN;
-use value::COUNT_SIZE;
 use value::DOUBLE;
-use value::DOUBLE_ARRAY;
-use value::DOUBLE_SIZE;
 use value::TRUE;
 ghost use mathlib.Core.Path.{_≡_};
-ghost use Prim.Native.Nat.{_+_, _*_, _≤_};
-ghost use lib.ListN.{length, drop, getD};
+ghost use Prim.Native.Nat.{ℕ, _+_, _*_, _≤_};
+ghost use lib.ListN.{length, getD};
 ghost use lib.Ieee.{binary64, ofBits};
-ghost use Rattle.value.specs.Value.{doubleSize, countSize, IsValue};
-ghost use Rattle.scalar.specs.Scalar.{decode64, scalarOf, equalDouble, equalDoubles, equalValues};
+ghost use Rattle.value.specs.Value.{doubleSize, IsValue};
+ghost use Rattle.scalar.specs.Scalar.{decode64, scalarOf, equalValues};
 
 // A Double's pattern: its sign, and the pattern of an infinity. A pattern that is above it beside its sign is a NaN's.
 const SIGN: u64 = 9223372036854775808;
@@ -81,45 +78,9 @@ pub fn scalar_of(type_code: u16, value: &[u8]) -> Scalar
     Scalar::Neither
 }
 
-fn same_double(v: &[u8], w: &[u8]) -> bool
-    requires { ⌜ (doubleSize ≤ length (now v)) × (doubleSize ≤ length (now w)) ⌝ }
-    ensures { λ r. ⌜ r ≡ equalDouble (now (v .entry)) (now (w .entry)) ⌝ }
+// Whether two values of a type are equal, whichever it is.
+pub fn same_value(v: &[u8], w: &[u8]) -> bool
+    ensures { λ r. ⌜ ((type : ℕ) → r ≡ equalValues type (now (v .entry)) (now (w .entry))) ⌝ }
 {
-    let x = double_of(read_u64(v));
-    let y = double_of(read_u64(w));
-    x == y
-}
-
-// So many Doubles, behind an array's count.
-fn same_doubles(count: u8, v: &[u8], w: &[u8]) -> bool
-    requires { ⌜ (countSize + doubleSize * count ≤ length (now v)) × (countSize + doubleSize * count ≤ length (now w)) ⌝ }
-    ensures { λ r. ⌜ r ≡ equalDoubles count (drop countSize (now (v .entry))) (drop countSize (now (w .entry))) ⌝ }
-{
-    let mut left = count;
-    let mut at = COUNT_SIZE;
-    while 0 < left {
-        if !same_double(&v[at..], &w[at..]) {
-            return false;
-        }
-        at += DOUBLE_SIZE;
-        left -= 1;
-    }
-    true
-}
-
-// Whether two values of a type are equal.
-pub fn same_value(type_code: u16, v: &[u8], w: &[u8]) -> bool
-    requires { ⌜ IsValue «type_code» (now v) × IsValue «type_code» (now w) ⌝ }
-    ensures { λ r. ⌜ r ≡ equalValues «type_code» (now (v .entry)) (now (w .entry)) ⌝ }
-{
-    if type_code == (DOUBLE as u16) {
-        return same_double(v, w);
-    }
-    if type_code == (DOUBLE_ARRAY as u16) {
-        if v[0] != w[0] {
-            return false;
-        }
-        return same_doubles(v[0], v, w);
-    }
     field::same_bytes(v, w)
 }

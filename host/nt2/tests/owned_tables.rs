@@ -262,6 +262,36 @@ fn line_record_ends_at_a_refusal_and_what_came_before_stands() {
     }
 }
 
+/// Doubles that the language's comparison has equal or not other than their bytes.
+const ZERO: u64 = 0;
+const MINUS_ZERO: u64 = 1 << 63;
+const NAN: u64 = 0x7FF8_0000_0000_0000;
+const OTHER_NAN: u64 = 0x7FF8_0000_0000_0001;
+
+/// Writes over a Double alone and over the last of two in an array. A value that differs in a byte is
+/// sent with the next number, and held as it was written; the same bytes again are ignored.
+#[test]
+fn values_are_equal_by_their_bytes() {
+    let mut out = vec![0; LONGEST_HELLO_ANSWER];
+    let array = |last: u64| [&[2][..], &ZERO.to_be_bytes(), &last.to_be_bytes()].concat();
+    let mut table = ServerTable::new();
+    table.create(b"tare", Type::Double, &ZERO.to_be_bytes(), &mut out).unwrap();
+    table.create(b"tares", Type::DoubleArray, &array(ZERO), &mut out).unwrap();
+    let written = [MINUS_ZERO, ZERO, NAN, OTHER_NAN, NAN, MINUS_ZERO];
+    for (number, bits) in (2..).zip(written) {
+        for (id, value) in [(0, bits.to_be_bytes().to_vec()), (1, array(bits))] {
+            let update = [&[0x11, 0, id as u8, 0, number][..], &value].concat();
+            let Written::Done(sent) = table.write(id, &value, &mut out).unwrap() else {
+                panic!("{bits:016x} is held back as equal");
+            };
+            assert_eq!(sent.bytes, update);
+            assert_eq!(table.write(id, &value, &mut out), Ok(Written::Ignored));
+            let entry = table.entry(id).unwrap();
+            assert_eq!((entry.number, entry.value), (number.into(), &value[..]));
+        }
+    }
+}
+
 #[test]
 fn copy_follows_the_server() {
     let mut out = vec![0; LONGEST_HELLO_ANSWER];

@@ -138,9 +138,8 @@ impl Run<'_> {
             UPDATE => {
                 let i = self.server.table.held(reader.u16()?)?;
                 reader.u16()?;
-                let kind = self.server.table.kind(i)?;
-                let value = reader.value(kind)?;
-                self.server.write(i, kind, value, &mut Unread)?;
+                let value = reader.value(self.server.table.kind(i)?)?;
+                self.server.write(i, value, &mut Unread)?;
             }
             _ => return Err(Refusal::Kind.into()),
         }

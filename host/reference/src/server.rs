@@ -4,8 +4,8 @@ use crate::output::Output;
 use crate::table::Table;
 use crate::wire::{
     ASSIGNMENT, Fault, HELLO, HELLO_COMPLETE, Judged, KEEP_ALIVE, NO_ID, REVISION, Reader, Refusal,
-    Type, UNSUPPORTED, UPDATE, check_name, check_value, equal_values, write_heading,
-    write_revision, write_update,
+    Type, UNSUPPORTED, UPDATE, check_name, check_value, write_heading, write_revision,
+    write_update,
 };
 use crate::{IGNORED, answer};
 use nt2_sys::{Answer, CONNECTIONS, DELIVERY_MESSAGES, Delivered, HEADING, LentTable};
@@ -102,9 +102,8 @@ pub fn write(
 ) -> Answer {
     answer(Server::sound(table, marks).and_then(|mut server| {
         let i = server.table.held(id)?;
-        let kind = server.table.kind(i)?;
-        check_value(kind, value)?;
-        server.write(i, kind, value, out)
+        check_value(server.table.kind(i)?, value)?;
+        server.write(i, value, out)
     }))
 }
 
@@ -296,15 +295,14 @@ impl<'a> Server<'a> {
         self.assign(name, type_code, value, out)
     }
 
-    /// Writes a value of its type to entry i.
+    /// Writes a value of its type to entry i. Whatever the type, values are equal by their bytes.
     pub fn write(
         &mut self,
         i: usize,
-        kind: Type,
         value: &[u8],
         out: &mut (impl Output + ?Sized),
     ) -> Judged<Answer> {
-        if equal_values(kind, self.table.value(i), value) {
+        if self.table.value(i) == value {
             return Ok(Answer { number: IGNORED, ..Answer::default() });
         }
         let number = self.table.number(i).wrapping_add(1);

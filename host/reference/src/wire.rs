@@ -203,21 +203,6 @@ pub fn check_value(kind: Type, bytes: &[u8]) -> Judged<()> {
     Ok(())
 }
 
-/// Whether two values of one type are equal: Doubles as numbers, others by their bytes.
-pub fn equal_values(kind: Type, left: &[u8], right: &[u8]) -> bool {
-    match kind {
-        Type::Double => equal_doubles(left, right),
-        Type::DoubleArray => left.len() == right.len() && equal_doubles(&left[1..], &right[1..]),
-        _ => left == right,
-    }
-}
-
-fn equal_doubles(left: &[u8], right: &[u8]) -> bool {
-    let (left, _) = left.as_chunks::<8>();
-    let (right, _) = right.as_chunks::<8>();
-    left.iter().zip(right).all(|(&l, &r)| f64::from_be_bytes(l) == f64::from_be_bytes(r))
-}
-
 /// An assignment's fields as they are written.
 pub struct Assignment<'a> {
     pub name: &'a [u8],

@@ -1,5 +1,7 @@
 -- `judge_write` decides as the definition does, by what the accessors read of the held entry.
-use mathlib.Core.Path.{_≡_, refl, sym, _∙_}
+use mathlib.Core.Path.{_≡_, refl, sym, ap, _∙_}
+use mathlib.Core.List.{List}
+use Prim.Native.Nat.{ℕ}
 use native.Mathlib.Omega.{arith}
 use lib.ListN.{length}
 use borrow.Author.Tests.{lt-ltb, le-ltb}
@@ -68,7 +70,9 @@ to-told c = c .before .before
 compared : (c : tie.After-same-value)
     → c .same-value .result ≡ equalValues (held (to-start (to-held (to-told c))) .type) (held (to-start (to-held (to-told c))) .value) (to-start (to-held (to-told c)) .args .value .now)
 unfolding to-start to-held to-told entryAt
-compared c = rw (c .before .value-of .ensures, to-told c .before .before .before .type-of .ensures (to-start (to-held (to-told c)) .args .bytes .now)) at (c .same-value .ensures)
+compared c =
+    let s = to-start (to-held (to-told c)) in
+    c .same-value .ensures (held s .type) ∙ ap (λ (v : List ℕ). equalValues (held s .type) v (s .args .value .now)) (c .before .value-of .ensures)
 
 fault-at-requires : tie.Need-fault-at-requires
 fault-at-requires c κs = search needs
@@ -112,12 +116,7 @@ unfolding to-start to-held
 value-of-requires c κs = stored (to-held c) .value-there
 
 same-value-requires : tie.Need-same-value-requires
-unfolding to-start to-held entryAt
-same-value-requires c κs =
-    let t = c .before in
-    let y = t .before .before .before in
-    let is = y .type-of .ensures (to-start (to-held t) .args .bytes .now) in
-    (rw (c .value-of .ensures, is) (stored (to-held t) .value-whole), rw is (new-value t))
+same-value-requires c κs = search needs
 
 returns-3 : tie.Need-returns-3
 unfolding judge judged pick to-start to-held to-told

@@ -57,6 +57,9 @@ const IGNORED_NEEDS_ROOM: usize = 12;
 const RECIPIENT_LEFT_OUT: usize = 13;
 const DELIVERY_UNDONE: usize = 14;
 const LINE_RECORD: usize = 15;
+const EQUAL_AS_NUMBERS: usize = 16;
+const COUNT_NOT_COMPARED: usize = 17;
+const FIRST_ELEMENT_COMPARED: usize = 18;
 
 /// The answer to a delivery with one fault.
 fn faulty_delivery<const FAULT: usize>(input: &[u8], room: usize, answer: Delivered) -> Delivered {
@@ -75,6 +78,27 @@ fn faulty_delivery<const FAULT: usize>(input: &[u8], room: usize, answer: Delive
             Delivered { number: 12, ..Delivered::default() }
         }
         _ => answer,
+    }
+}
+
+/// The type and value of the entry with an ID, in memory of any contents.
+fn stored(table: &LentTable<'_>, id: u16) -> Option<(u16, Vec<u8>)> {
+    let head = table.heads.get(usize::from(id))?;
+    let value = table.bytes.get(320 * usize::from(id) + 64..)?;
+    Some((head.type_code, value.get(..usize::from(head.value_length))?.to_vec()))
+}
+
+/// Whether two values of a type are equal by a wrong rule.
+fn wrongly_equal<const FAULT: usize>(type_code: u16, left: &[u8], right: &[u8]) -> bool {
+    let numbers = |bytes: &[u8]| -> Vec<f64> {
+        bytes.as_chunks().0.iter().map(|&double| f64::from_be_bytes(double)).collect()
+    };
+    match (FAULT, type_code) {
+        (EQUAL_AS_NUMBERS, 0x01) => numbers(left) == numbers(right),
+        (EQUAL_AS_NUMBERS, 0x11) => numbers(&left[1..]) == numbers(&right[1..]),
+        (COUNT_NOT_COMPARED, 0x10..) => left[1..].iter().zip(&right[1..]).all(|(l, r)| l == r),
+        (FIRST_ELEMENT_COMPARED, 0x11) => left.iter().take(1 + 8).eq(right.iter().take(1 + 8)),
+        _ => left == right,
     }
 }
 
@@ -182,6 +206,7 @@ impl<const FAULT: usize> Implementation for Faulty<FAULT> {
         value: &[u8],
         out: &mut [u8],
     ) -> Answer {
+        let held = stored(&table, id);
         let LentTable { heads, bytes, count } = table;
         let before = (FAULT == WRITE_NOT_STORED).then(|| bytes.to_vec());
         let mut answer = Reference::write(LentTable { heads, bytes, count }, marks, id, value, out);
@@ -190,6 +215,11 @@ impl<const FAULT: usize> Implementation for Faulty<FAULT> {
         }
         if FAULT == EQUAL_VALUE_WRITTEN && answer.number == 16 {
             answer.number = 0;
+        }
+        if FAULT >= EQUAL_AS_NUMBERS && matches!(answer.number, 0 | 16) {
+            let (type_code, held) = held.unwrap();
+            let equal = wrongly_equal::<FAULT>(type_code, &held, value);
+            answer.number = if equal { 16 } else { 0 };
         }
         answer
     }
@@ -251,6 +281,20 @@ fn faults_are_found() {
     found::<IGNORED_NEEDS_ROOM>();
     found::<RECIPIENT_LEFT_OUT>();
     found::<DELIVERY_UNDONE>();
+}
+
+/// By the differential test, and by the acceptance cases.
+fn found_in_writes<const FAULT: usize>() {
+    found::<FAULT>();
+    let cases = run_file::<Faulty<FAULT>>(&folder(), "local.json").unwrap();
+    assert!(!cases.failures.is_empty(), "no case finds fault {FAULT}");
+}
+
+#[test]
+fn wrong_rules_of_equal_values_are_found() {
+    found_in_writes::<EQUAL_AS_NUMBERS>();
+    found_in_writes::<COUNT_NOT_COMPARED>();
+    found_in_writes::<FIRST_ELEMENT_COMPARED>();
 }
 
 /// The fault of the line records that `Faulty<LINE_RECORD>` runs.
