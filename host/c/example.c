@@ -447,6 +447,7 @@ static void copy_follows(table server, table copy, block *out) {
     a = write_value(server, 1, minus_zero, 8, out, 5 + 8);
     CHECK(answers(a, NT2_DONE, 0, 5 + 8, 1 << 5));
     feed(copy, out->bytes, a.sent);
+    same_entries(server, copy);
     a = write_value(server, 1, one, 8, out, 5 + 8);
     CHECK(answers(a, NT2_DONE, 0, 5 + 8, 1 << 5));
     feed(copy, out->bytes, a.sent);

@@ -240,8 +240,9 @@ nt2_answer nt2_create(nt2_head *heads, size_t heads_length, uint8_t *bytes, size
                       size_t name_length, uint8_t type_code, const uint8_t *value,
                       size_t value_length, uint8_t *out, size_t out_length);
 
-/* Writes an entry's value for the plant's own code: NT2_IGNORED where the entry has the same bytes,
- * whatever its type. Minus zero is not plus zero, and a NaN is the same one with the same bytes. */
+/* Writes an entry's value for the plant's own code: NT2_IGNORED where its value has these bytes already,
+ * whatever its type. Minus zero differs from plus zero, and a NaN is equal to one with the same bytes
+ * only. */
 nt2_answer nt2_write(nt2_head *heads, size_t heads_length, uint8_t *bytes, size_t bytes_length,
                      uint16_t *count, uint8_t *marks, size_t marks_length, uint16_t id,
                      const uint8_t *value, size_t value_length, uint8_t *out, size_t out_length);

@@ -1,4 +1,4 @@
--- Demand 2: a client's message changes a held entry only by an update with a strictly greater number; what is not greater is ignored.
+-- Demand 2: a client's message changes a held entry only by an update with a strictly greater number; what is not greater is ignored. A local write leaves the value given.
 use mathlib.Core.Path.{_≡_, refl, sym, ap, _∙_}
 use mathlib.Core.Logic.{_≢_}
 use mathlib.Core.Bool.{true, false, and-eq-true-iff}
@@ -19,7 +19,6 @@ use borrow.Author.Tests.{lt-ltb, ltb-true}
 use Rattle.value.specs.Value.{IsValue}
 use Rattle.value.proofs.ValueLaws.{lone-taken, LoneIs, lone-is}
 use Rattle.scalar.specs.Scalar.{equalValues}
-use Rattle.scalar.specs.Comparisons.{EqualWhenSame}
 use Rattle.scalar.proofs.Comparisons.{equal-exactly}
 use Rattle.protocol.proofs.SoundnessLaws.{step-is}
 use Rattle.message.specs.Layout.{Entry, Message, keepAlive, assignment, update, layout, WellFormed}
@@ -35,7 +34,7 @@ use Rattle.recipients.specs.Recipients.{allGreeted}
 use Rattle.protocol.specs.Judge.{localWrite, Verdict, refuse, ignore, acceptHello, unsupportedRevision, storeNew, storeUpdate, newId, newEntry, judgeWrite, judge}
 use Rattle.protocol.specs.Step.{ServerMemory, CallResult, refusal, execute, callStep}
 use Rattle.protocol.specs.Kept.{SoundMemory}
-use Rattle.protocol.specs.Change.{Applied, EntryAfter, applied, CountAfter, one-more, ClientChange, ClientChanges, NotGreaterIgnored, HeldNameIgnored, KeepAliveIgnored, EqualValueIgnored, HasValue, WriteHeld}
+use Rattle.protocol.specs.Change.{Applied, EntryAfter, applied, CountAfter, one-more, ClientChange, ClientChanges, NotGreaterIgnored, HeldNameIgnored, KeepAliveIgnored, EqualValueIgnored, LeavesValue, WriteHeld}
 use Rattle.protocol.proofs.AnswerLaws.{not-refused}
 use Rattle.protocol.proofs.MessageLaws.{comesTo, Comes, connected, client-step, ClientCall, client-call}
 
@@ -168,23 +167,23 @@ equal-value-ignored limit mem s id value out l w same =
 -- ---- what is written
 
 module _ (limit : ℕ) (mem : ServerMemory) (id : ℕ) (value out : List ℕ) where
-  refused-has : (number : ℕ) → RefusalNumber number → HasValue id value (refusal mem out number)
-  refused-has number n h = absurd (not-refused number n h)
+  refused-leaves : (number : ℕ) → RefusalNumber number → LeavesValue id value (refusal mem out number)
+  refused-leaves number n h = absurd (not-refused number n h)
 
   abbrev there : Entry
   there = getD (entriesOf (mem .table)) id defaultEntry
 
-  abbrev Has : Verdict → Type 0
-  Has v = HasValue id value (execute mem out v)
+  abbrev Leaves : Verdict → Type 0
+  Leaves v = LeavesValue id value (execute mem out v)
 
-  value-has : soundTable limit (mem .table) ≡ true → id < length (entriesOf (mem .table)) → (q : Parsed) → LoneIs (there .type) value q → RefusedRightly q
-      → Has (andThen refuse q (λ _. pick (equalValues (there .type) (there .value) value) (ignore 0) (storeUpdate id (nextNumber (there .number)) value 0 allGreeted)))
+  value-leaves : soundTable limit (mem .table) ≡ true → id < length (entriesOf (mem .table)) → (q : Parsed) → LoneIs (there .type) value q → RefusedRightly q
+      → Leaves (andThen refuse q (λ _. pick (equalValues (there .type) (there .value) value) (ignore 0) (storeUpdate id (nextNumber (there .number)) value 0 allGreeted)))
   unfolding execute
-  value-has s h (Refused fault) f (RefusedRightly.refused n) = refused-has (fault .number) n
-  value-has s h (Taken n) (LoneIs.taken b whole) f =
-      by-test Has _ _ _ (λ equal. λ _. ap (λ (e : Entry). e .value) (held (mem .table) id l) ∙ equal-exactly (there .type) (there .value) value .equal-same equal)
-      (λ _. by-test (HasValue id value) _ _ _ (λ _. λ _. ap (λ (e : Entry). e .value) (value-same (mem .table) id (nextNumber (there .number)) value l stored))
-      (λ _. refused-has 12 (refusal-number 12 (omega arith) (omega arith))))
+  value-leaves s h (Refused fault) f (RefusedRightly.refused n) = refused-leaves (fault .number) n
+  value-leaves s h (Taken n) (LoneIs.taken b whole) f =
+      by-test Leaves _ _ _ (λ equal. λ _. ap (λ (e : Entry). e .value) (held (mem .table) id l) ∙ equal-exactly (there .type) (there .value) value .equal-same equal)
+      (λ _. by-test (LeavesValue id value) _ _ _ (λ _. λ _. ap (λ (e : Entry). e .value) (value-same (mem .table) id (nextNumber (there .number)) value l stored))
+      (λ _. refused-leaves 12 (refusal-number 12 (omega arith) (omega arith))))
     where
       l : id < mem .table .count
       l = omega (arith, h, length-entries (mem .table))
@@ -192,14 +191,14 @@ module _ (limit : ℕ) (mem : ServerMemory) (id : ℕ) (value out : List ℕ) wh
       stored : entriesOf (storeValue (mem .table) id (nextNumber (there .number)) value) ≡ withNumberAndValue (entriesOf (mem .table)) id (nextNumber (there .number)) value
       stored = stored-value limit (mem .table) s id (nextNumber (there .number)) value h whole
 
-  write-has : soundTable limit (mem .table) ≡ true → Has (judgeWrite (entriesOf (mem .table)) id value)
+  write-leaves : soundTable limit (mem .table) ≡ true → Leaves (judgeWrite (entriesOf (mem .table)) id value)
   unfolding judgeWrite execute
-  write-has s =
-      by-test Has _ _ _ (λ h. value-has s (ltb-true _ _ h) _ (lone-is (there .type) value) (lone-rightly (there .type) value))
-      (λ _. refused-has 6 (refusal-number 6 (omega arith) (omega arith)))
+  write-leaves s =
+      by-test Leaves _ _ _ (λ h. value-leaves s (ltb-true _ _ h) _ (lone-is (there .type) value) (lone-rightly (there .type) value))
+      (λ _. refused-leaves 6 (refusal-number 6 (omega arith) (omega arith)))
 
 pub write-held : WriteHeld
 unfolding callStep judge
 write-held limit mem id value out =
-    by-test (HasValue id value) _ _ _ (λ s. write-has limit mem id value out (and-eq-true-iff (soundTable limit (mem .table)) (soundMarks (mem .marks)) .0 s .0))
-    (λ _. refused-has limit mem id value out 14 (refusal-number 14 (omega arith) (omega arith)))
+    by-test (LeavesValue id value) _ _ _ (λ s. write-leaves limit mem id value out (and-eq-true-iff (soundTable limit (mem .table)) (soundMarks (mem .marks)) .0 s .0))
+    (λ _. refused-leaves limit mem id value out 14 (refusal-number 14 (omega arith) (omega arith)))

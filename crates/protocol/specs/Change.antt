@@ -1,4 +1,4 @@
--- Demand 2: what becomes of held entries by a client's message.
+-- Demand 2: what becomes of held entries by a client's message; then what is ignored, and what a local write leaves.
 use Prim.Native.Nat.{ℕ, _+_, _<_}
 use mathlib.Core.Bool.{true, false}
 use mathlib.Core.List.{List, _∷_, _++_}
@@ -91,9 +91,11 @@ EqualValueIgnored =
 -- ---- what is written
 
 -- where a call is done or ignored, the entry's value is this one, byte for byte
-abbrev pub HasValue : ℕ → List ℕ → CallResult → Type 0
-HasValue id value r = (r .number ≡ done) ⊎ (r .number ≡ ignored) → entryOf (r .memory .table) id .value ≡ value
+abbrev pub LeavesValue : ℕ → List ℕ → CallResult → Type 0
+LeavesValue id value r = (r .number ≡ done) ⊎ (r .number ≡ ignored) → entryOf (r .memory .table) id .value ≡ value
 
 -- what the plant writes is held as it was given: a local write is ignored only where the entry has the same bytes
 abbrev pub WriteHeld : Type 0
-WriteHeld = (limit : ℕ) (mem : ServerMemory) (id : ℕ) (value out : List ℕ) → HasValue id value (callStep limit mem (record { call = localWrite id value; output = out }))
+WriteHeld =
+    (limit : ℕ) (mem : ServerMemory) (id : ℕ) (value out : List ℕ)
+    → LeavesValue id value (callStep limit mem (record { call = localWrite id value; output = out }))

@@ -1,4 +1,4 @@
--- When two values are equal, and Doubles that the language's comparison answers otherwise.
+-- When two values are equal, and what that makes of zeros and NaNs.
 use Prim.Native.Nat.{ℕ}
 use mathlib.Core.Bool.{Bool, true, false}
 use mathlib.Core.List.{List, [], _∷_, _++_}

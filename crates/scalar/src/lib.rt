@@ -1,4 +1,4 @@
-// Doubles as numbers: the scalar that a value is, and when two values are equal.
+// The scalar that a value is, a Double as a number; and when two values are equal.
 use value::BOOLEAN;
 use value::DOUBLE;
 use value::TRUE;

@@ -12,7 +12,7 @@ ghost use lib.ListN.{length, drop};
 ghost use Rattle.value.specs.Value.{knownType, parseBoolean, parseDouble, parseElement};
 ghost use Rattle.value.specs.Value.{countSize, countFits, elements, parseArray, parseValue, parseLone};
 
-// Types: a Boolean, a Double, a String, and arrays of these.
+// Types: a Boolean, a Double, a String, and the first and last of the arrays of these.
 pub const BOOLEAN: u8 = 0x00;
 
 pub const DOUBLE: u8 = 0x01;
@@ -20,8 +20,6 @@ pub const DOUBLE: u8 = 0x01;
 pub const STRING: u8 = 0x02;
 
 pub const BOOLEAN_ARRAY: u8 = 0x10;
-
-pub const DOUBLE_ARRAY: u8 = 0x11;
 
 pub const STRING_ARRAY: u8 = 0x12;
 

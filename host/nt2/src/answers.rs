@@ -299,7 +299,7 @@ impl fmt::Display for BadRecord {
 
 impl Error for BadRecord {}
 
-/// A local write that was accepted; one of the bytes that the entry has already is ignored.
+/// A local write that was accepted; a value whose bytes the entry has already is ignored.
 #[derive(Clone, Copy, Debug, PartialEq, Eq)]
 pub enum Written<'a> {
     Done(Sent<'a>),

@@ -154,7 +154,7 @@ pub fn create(
     }
 }
 
-/// Writes an entry's value for the plant's own code.
+/// Writes an entry's value for the plant's own code. One that has the same bytes is ignored.
 pub fn write(
     table: LentTable<'_>,
     marks: &mut [u8],

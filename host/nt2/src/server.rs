@@ -113,9 +113,9 @@ impl ServerTable {
         Ok(sent(answer, out))
     }
 
-    /// Writes an entry's value for the plant's own code. It is ignored where the entry has the same
-    /// bytes, whatever its type: minus zero is not plus zero, and a NaN is the same one with the same
-    /// bytes.
+    /// Writes an entry's value for the plant's own code. It is ignored where the value has these bytes
+    /// already, whatever its type: minus zero differs from plus zero, and a NaN is equal to one with
+    /// the same bytes only.
     pub fn write<'a>(
         &mut self,
         id: u16,

@@ -262,7 +262,7 @@ fn line_record_ends_at_a_refusal_and_what_came_before_stands() {
     }
 }
 
-/// Doubles that the language's comparison has equal or not other than their bytes.
+// Doubles for which equal numbers and equal bytes are not the same.
 const ZERO: u64 = 0;
 const MINUS_ZERO: u64 = 1 << 63;
 const NAN: u64 = 0x7FF8_0000_0000_0000;

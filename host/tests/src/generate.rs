@@ -365,8 +365,11 @@ impl Generator {
         (Call::Write { id, value: Hex(value) }, room)
     }
 
-    /// A stored value as it is, or with a Double of it changed.
+    /// A stored value as it is, or with a Double of it changed, gone or repeated.
     fn nearly(&mut self, type_code: u8, mut value: Vec<u8>) -> Vec<u8> {
+        if type_code == 0x11 && self.random.percent(15) {
+            return self.one_less_or_more(value);
+        }
         let doubles = match type_code {
             0x01 => &mut value[..],
             0x11 => &mut value[1..],
@@ -379,6 +382,21 @@ impl Generator {
                 1 => doubles[at + 7] ^= 1,
                 _ => doubles[at..at + 8].copy_from_slice(&self.random.pick(&DOUBLES).to_be_bytes()),
             }
+        }
+        value
+    }
+
+    /// An array of Doubles without its last one, or with that one twice.
+    fn one_less_or_more(&mut self, mut value: Vec<u8>) -> Vec<u8> {
+        let last = value.split_off(value.len().saturating_sub(8).max(1));
+        if last.is_empty() {
+            return value;
+        }
+        if self.random.percent(50) {
+            value[0] -= 1;
+        } else {
+            value[0] += 1;
+            value.extend(last.repeat(2));
         }
         value
     }

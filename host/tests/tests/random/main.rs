@@ -216,7 +216,9 @@ impl<const FAULT: usize> Implementation for Faulty<FAULT> {
         if FAULT == EQUAL_VALUE_WRITTEN && answer.number == 16 {
             answer.number = 0;
         }
-        if FAULT >= EQUAL_AS_NUMBERS && matches!(answer.number, 0 | 16) {
+        let wrong_rule =
+            matches!(FAULT, EQUAL_AS_NUMBERS | COUNT_NOT_COMPARED | FIRST_ELEMENT_COMPARED);
+        if wrong_rule && matches!(answer.number, 0 | 16) {
             let (type_code, held) = held.unwrap();
             let equal = wrongly_equal::<FAULT>(type_code, &held, value);
             answer.number = if equal { 16 } else { 0 };
