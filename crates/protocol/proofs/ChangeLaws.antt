@@ -25,16 +25,17 @@ use Rattle.message.specs.Layout.{Entry, Message, keepAlive, assignment, update,
 use Rattle.message.specs.Reader.{BeginsWith}
 use Rattle.message.proofs.RefusalLaws.{refusal-number, RefusedRightly, lone-rightly}
 use Rattle.table.specs.Names.{nameHeld}
-use Rattle.table.specs.Table.{TableMemory, defaultEntry, entriesOf, storeEntry, storeValue, entryOf, withUpdate}
+use Rattle.table.specs.Table.{TableMemory, defaultEntry, entryAt, entriesOf, storeEntry, storeValue, entryOf, withUpdate}
 use Rattle.table.proofs.TabulateLaws.{length-entries, entry-get}
 use Rattle.table.proofs.StoreLaws.{withNumberAndValue}
 use Rattle.soundness.specs.Sound.{soundTable, soundMarks}
+use Rattle.soundness.proofs.ReadableLaws.{stored-entry}
 use Rattle.soundness.proofs.StoredLaws.{stored-new, stored-value}
 use Rattle.recipients.specs.Recipients.{allGreeted}
 use Rattle.protocol.specs.Judge.{localWrite, Verdict, refuse, ignore, acceptHello, unsupportedRevision, storeNew, storeUpdate, newId, newEntry, judgeWrite, judge}
 use Rattle.protocol.specs.Step.{ServerMemory, CallResult, refusal, execute, callStep}
 use Rattle.protocol.specs.Kept.{SoundMemory}
-use Rattle.protocol.specs.Change.{Applied, EntryAfter, applied, CountAfter, one-more, ClientChange, ClientChanges, NotGreaterIgnored, HeldNameIgnored, KeepAliveIgnored, EqualValueIgnored, LeavesValue, WriteHeld}
+use Rattle.protocol.specs.Change.{Applied, EntryAfter, applied, CountAfter, one-more, ClientChange, ClientChanges, NotGreaterIgnored, HeldNameIgnored, KeepAliveIgnored, EqualValueIgnored, LeavesValue, WriteHeld, SameBytesIgnored}
 use Rattle.protocol.proofs.AnswerLaws.{not-refused}
 use Rattle.protocol.proofs.MessageLaws.{comesTo, Comes, connected, client-step, ClientCall, client-call}
 
@@ -202,3 +203,9 @@ unfolding callStep judge
 write-held limit mem id value out =
     by-test (LeavesValue id value) _ _ _ (λ s. write-leaves limit mem id value out (and-eq-true-iff (soundTable limit (mem .table)) (soundMarks (mem .marks)) .0 s .0))
     (λ _. refused-leaves limit mem id value out 14 (refusal-number 14 (omega arith) (omega arith)))
+
+pub same-bytes-ignored : SameBytesIgnored
+unfolding entryAt
+same-bytes-ignored limit mem s id out l =
+    let e = entryOf (mem .table) id in
+    equal-value-ignored limit mem s id (e .value) out l (stored-entry limit (mem .table) id (s .table) l .value-whole) (equal-exactly (e .type) (e .value) (e .value) .same-equal refl)

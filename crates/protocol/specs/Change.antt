@@ -94,8 +94,14 @@ EqualValueIgnored =
 abbrev pub LeavesValue : ℕ → List ℕ → CallResult → Type 0
 LeavesValue id value r = (r .number ≡ done) ⊎ (r .number ≡ ignored) → entryOf (r .memory .table) id .value ≡ value
 
--- what the plant writes is held as it was given: a local write is ignored only where the entry has the same bytes
+-- what the plant writes is held as it was given, whatever lent memory holds: a local write is ignored only where the entry has the same bytes
 abbrev pub WriteHeld : Type 0
 WriteHeld =
     (limit : ℕ) (mem : ServerMemory) (id : ℕ) (value out : List ℕ)
     → LeavesValue id value (callStep limit mem (record { call = localWrite id value; output = out }))
+
+-- and there it is ignored, before room is looked at
+abbrev pub SameBytesIgnored : Type 0
+SameBytesIgnored =
+    (limit : ℕ) (mem : ServerMemory) → SoundMemory limit mem → (id : ℕ) (out : List ℕ) → id < mem .table .count
+    → callStep limit mem (record { call = localWrite id (entryOf (mem .table) id .value); output = out }) ≡ ignoredResult mem out 0

@@ -1,10 +1,12 @@
--- When two values are equal, and what that makes of zeros and NaNs.
+-- When two values are equal, what that makes of zeros, NaNs and arrays, and a Double that is read.
 use Prim.Native.Nat.{ℕ}
 use mathlib.Core.Bool.{Bool, true, false}
 use mathlib.Core.List.{List, [], _∷_, _++_}
 use mathlib.Core.Path.{_≡_}
+use lib.Ieee.{binary64, ofBits}
 use Rattle.value.specs.Value.{double, doubleArray}
-use Rattle.scalar.specs.Scalar.{equalValues}
+use Rattle.scalar.specs.Scalar.{scalarOf, equalValues}
+use Rattle.scalar.specs.declared.Scalar.the-variants.{Double}
 
 -- "exactly when": values are equal where they are the same bytes, and only there
 pub record EqualWhenSame (type : ℕ) (v w : List ℕ) : Type 0 where
@@ -37,3 +39,11 @@ ZerosDiffer = Compared plusZero minusZero false
 -- a NaN is equal to itself, and not to another one
 abbrev pub NansAsBytes : Type 0
 NansAsBytes = Compared aNan aNan true × Compared aNan anotherNan false
+
+-- an array is not equal to a longer one that begins with its elements
+abbrev pub CountsDiffer : Type 0
+CountsDiffer = equalValues doubleArray (1 ∷ plusZero) (2 ∷ plusZero ++ plusZero) ≡ false
+
+-- "a Double as a number": all eight bytes of it, the highest one first
+abbrev pub DoubleRead : Type 0
+DoubleRead = scalarOf double (0xC1 ∷ 2 ∷ 3 ∷ 4 ∷ 5 ∷ 6 ∷ 7 ∷ 8 ∷ []) ≡ Double (ofBits binary64 0xC102030405060708)
