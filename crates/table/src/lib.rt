@@ -4,10 +4,10 @@ use field::Number;
 use field::UNKNOWN_ID;
 use message::UpdateRead;
 ghost use mathlib.Core.Path.{_≡_};
-ghost use mathlib.Core.Bool.{_&&_};
+ghost use mathlib.Core.Bool.{true, false};
 ghost use mathlib.Core.List.{List};
 ghost use Prim.Native.Nat.{ℕ, _+_, _*_, _≤_, _<_};
-ghost use lib.ListN.{length, drop};
+ghost use lib.ListN.{length};
 ghost use Rattle.field.specs.Octets.{bytesEqual};
 ghost use Rattle.table.specs.Names.{holder};
 ghost use Rattle.table.specs.Table.{headSize, nameLengthField, valueLengthField};
@@ -104,13 +104,17 @@ pub fn value_of<'a>(heads: &[u16], bytes: &'a [u8], i: usize) -> &'a [u8]
 // The bytes of names that are compared first.
 const FRONT: usize = 16;
 
-// Whether two names begin alike: a fixed number of bytes, which the compiler compares at once.
-fn same_front(held: &[u8], name: &[u8]) -> bool
-    requires { ⌜ (16 ≤ length (now held)) × (16 ≤ length (now name)) ⌝ }
-    ensures { λ r.
-        ⌜ bytesEqual (now (held .entry)) (now (name .entry))
-        ≡ (r && bytesEqual (drop 16 (now (held .entry))) (drop 16 (now (name .entry)))) ⌝ }
+// Whether two names are as long and begin alike: a fixed number of bytes, which the compiler compares at once. Most names differ there.
+fn alike(held: &[u8], name: &[u8]) -> bool
+    ensures lengths { λ r. ⌜ (r ≡ true → length (now (held .entry)) ≡ length (now (name .entry))) ⌝ }
+    ensures others { λ r. ⌜ (r ≡ false → bytesEqual (now (held .entry)) (now (name .entry)) ≡ false) ⌝ }
 {
+    if held.len() != name.len() {
+        return false;
+    }
+    if name.len() < FRONT {
+        return true;
+    }
     let mut equal = true;
     let mut k = 0;
     while k < FRONT {
@@ -120,21 +124,6 @@ fn same_front(held: &[u8], name: &[u8]) -> bool
     equal
 }
 
-// Whether two names are equal. Most that are as long differ in their first bytes.
-fn same_name(held: &[u8], name: &[u8]) -> bool
-    ensures { λ r. ⌜ r ≡ bytesEqual (now (held .entry)) (now (name .entry)) ⌝ }
-{
-    if held.len() != name.len() {
-        return false;
-    }
-    if name.len() >= FRONT {
-        if !same_front(held, name) {
-            return false;
-        }
-    }
-    field::same_bytes(held, name)
-}
-
 // The ID of the first of so many entries whose name is equal, or their count where there is none.
 pub fn find_name(heads: &[u16], bytes: &[u8], count: usize, name: &[u8]) -> usize
     requires { ⌜ Named count (now heads) (now bytes) ⌝ }
@@ -142,13 +131,25 @@ pub fn find_name(heads: &[u16], bytes: &[u8], count: usize, name: &[u8]) -> usiz
         ⌜ r ≡ holder (now (name .entry)) (entriesOf (lent (heads .entry) (bytes .entry) count)) ⌝ }
 {
     let mut i = 0;
-    while i < count {
-        if same_name(name_of(heads, bytes, i), name) {
-            return i;
+    let id = 'entries: loop {
+        if i >= count {
+            break 'entries count;
+        }
+        let held = name_of(heads, bytes, i);
+        if alike(held, name) {
+            let mut equal = true;
+            let mut k = 0;
+            while k < name.len() {
+                equal = field::still_equal(equal, held[k], name[k]);
+                k += 1;
+            }
+            if equal {
+                break 'entries i;
+            }
         }
         i += 1;
-    }
-    count
+    };
+    id
 }
 
 // An update of a held ID, read with its stored type. `bytes` is lent for the contract.
