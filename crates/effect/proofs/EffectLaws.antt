@@ -24,8 +24,8 @@ use Rattle.judge.specs.declared.Decision.the-variants as D
 use Rattle.judge.specs.declared.MarkDecision.{MarkDecision}
 use Rattle.judge.specs.declared.MarkDecision.the-variants as K
 use Rattle.judge.specs.Decision.{verdictOf, Performable, markVerdict}
-use Rattle.line_record.specs.Effect.{Effect, effectOf, longestOutput, withOutput, withoutOutput}
-use Rattle.line_record.proofs.RoomLaws.{hello-room, revision-room, assignment-room, update-room, sends, withRoom, executed-longest, call-longest}
+use Rattle.protocol.specs.Effect.{Effect, effectOf, longestOutput, withOutput, withoutOutput}
+use Rattle.protocol.proofs.RoomLaws.{hello-room, revision-room, assignment-room, update-room, sends, withRoom, executed-longest, call-longest}
 
 -- ---- a client's message
 

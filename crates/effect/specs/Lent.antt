@@ -1,6 +1,6 @@
 -- The code's outcomes and lent slices, as the definitions have them.
 use Rattle.protocol.specs.Step.{ServerMemory}
-use Rattle.line_record.specs.Effect.{Effect}
+use Rattle.protocol.specs.Effect.{Effect}
 use Rattle.effect.specs.declared.Outcome.{Outcome}
 
 -- an outcome, with memory as the call leaves it

@@ -20,7 +20,7 @@ ghost use Rattle.protocol.specs.Step.{callStep, execute};
 ghost use Rattle.protocol.specs.Kept.{SoundMemory};
 ghost use Rattle.protocol.specs.Lent.{besideMarks, lentServer};
 ghost use Rattle.judge.specs.Decision.{verdictOf, Performable};
-ghost use Rattle.line_record.specs.Effect.{effectOf, longestOutput, withOutput, withoutOutput};
+ghost use Rattle.protocol.specs.Effect.{effectOf, longestOutput, withOutput, withoutOutput};
 ghost use Rattle.effect.specs.Lent.{effected};
 
 // The number of the answer, and the bytes of the message that were taken.

@@ -4,8 +4,8 @@ ghost use mathlib.Core.Bool.{_&&_};
 ghost use mathlib.Core.List.{_∷_, []};
 ghost use lib.Dec.{eqb};
 ghost use Prim.Native.Nat.{_+_, _^_, _≤_, _<_};
-ghost use lib.ListN.{length};
-ghost use Rattle.field.specs.Octets.{encode16, overwriteAt, bytesEqual};
+ghost use lib.ListN.{length, drop};
+ghost use Rattle.field.specs.Octets.{decode16, encode16, overwriteAt, bytesEqual};
 ghost use Rattle.field.specs.Field.{faultAt, faultOf, octetSize, octetAt, numberSize, numberAt, movedBy};
 ghost use Rattle.field.specs.Place.{reportedPlace};
 
@@ -84,7 +84,17 @@ pub fn read_u8(s: &[u8], at: usize) -> Octet
     Octet::There(s[at])
 }
 
-// The two bytes at a place, the higher one first.
+// The number of the two bytes at a place, the higher one first.
+pub fn u16_at(s: &[u8], at: usize) -> u16
+    requires { ⌜ at + numberSize ≤ length (now s) ⌝ }
+    ensures { λ r. ⌜ r ≡ decode16 (drop at (now (s .entry))) ⌝ }
+{
+    let high = wide(s[at]);
+    let low = wide(s[at + 1]);
+    high * 256 + low
+}
+
+// The same, where it may not be there.
 pub fn read_u16(s: &[u8], at: usize) -> Number
     ensures { λ r. ⌜ r ≡ numberAt (now (s .entry)) at ⌝ }
 {
@@ -94,9 +104,7 @@ pub fn read_u16(s: &[u8], at: usize) -> Number
     if s.len() - NUMBER_SIZE < at {
         return Number::Missing;
     }
-    let high = wide(s[at]);
-    let low = wide(s[at + 1]);
-    Number::There(high * 256 + low)
+    Number::There(u16_at(s, at))
 }
 
 pub fn fault_at(number: u8, place: usize) -> Fault

@@ -16,7 +16,7 @@ use Rattle.soundness.proofs.SoundLaws.{marks-facts}
 use Rattle.protocol.specs.Step.{ServerMemory}
 use Rattle.protocol.specs.Run.{memoryAfterRun}
 use Rattle.protocol.specs.Kept.{SoundMemory}
-use Rattle.line_record.specs.Effect.{Effect}
+use Rattle.protocol.specs.Effect.{Effect}
 use Rattle.line_record.specs.Held.{messageEffect, Kept, Settled, keeping, isClosed, leaving, settle}
 use Rattle.line_record.proofs.HeldLaws.{effect-sound, effect-takes}
 use Rattle.line_record.proofs.RunLaws.{no-bytes}

@@ -29,7 +29,7 @@ pub use Rattle.heads.proofs.HeadLaws.{zeros, zeros-is, length-zeros, fl
 pub use Rattle.table.specs.Table.{maxEntries}
 pub use Rattle.heads.specs.Heads.{headNumbers, changed, stored}
 pub use Rattle.heads.proofs.Frame.{enters, spots}
-pub use Rattle.heads.proofs.Parameters.{Kind, shared, lent, cell, number, spells, tell, passable-tail, stand}
+pub use Rattle.heads.proofs.Parameters.{Kind, shared, lent, view, cell, number, spells, tell, passable-tail, stand}
 pub use Rattle.heads.proofs.Boundary.{Load, Store}
 pub use Rattle.heads.proofs.Refuse.{AllStand, nows, exits-early}
 pub use Rattle.heads.proofs.Calls.{through, stays, exits, exits-shr, othersOwn, OthersLast, othersLast, load-known, store-known, #heads·load, #heads·store}

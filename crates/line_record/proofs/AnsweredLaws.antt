@@ -11,7 +11,7 @@ use Rattle.protocol.specs.Judge.{openConnection, leave}
 use Rattle.protocol.specs.Step.{ServerMemory, freshStart}
 use Rattle.protocol.specs.Run.{afterStartAndCalls}
 use Rattle.protocol.proofs.AnswerLaws.{call-answered}
-use Rattle.line_record.specs.Effect.{withoutOutput}
+use Rattle.protocol.specs.Effect.{withoutOutput}
 use Rattle.line_record.specs.Record.{NextRecord, refusedRecord, found, Record, nextRecord}
 use Rattle.line_record.specs.Replay.{RunState, runState, stepRecord, advanceOn, advance, Ran, run, noneHeld, replay}
 use Rattle.line_record.specs.Calls.{EachCallAnswered, RecordRefused, ReplayNumbers, RefusedChangesNothing}

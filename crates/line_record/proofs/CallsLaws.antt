@@ -13,7 +13,7 @@ use Rattle.soundness.specs.Sound.{connections}
 use Rattle.protocol.specs.Step.{ServerMemory, LentCall, callStep, freshStart}
 use Rattle.protocol.specs.Run.{memoryAfterRun}
 use Rattle.convergence.proofs.RunLaws.{run-append}
-use Rattle.line_record.specs.Effect.{effectOf}
+use Rattle.protocol.specs.Effect.{effectOf}
 use Rattle.line_record.specs.Plant.{PlantMessage, refusedMessage, asks, plantMessage}
 use Rattle.line_record.specs.Held.{plantEffect, plantCalls, clientCall, messageEffect, messageCalls, Settled, settled, settle, gather}
 use Rattle.line_record.specs.Record.{Record, opens, leaves, came, NextRecord, refusedRecord, found, nextRecord}

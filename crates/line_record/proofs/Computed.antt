@@ -24,7 +24,7 @@ use Rattle.protocol.specs.Judge.{openConnection, leave, clientMessage, localCre
 use Rattle.protocol.specs.Step.{execute, callStep, freshStart}
 use Rattle.protocol.specs.Run.{memoryAfterRun}
 use Rattle.protocol.proofs.Computed.{stale}
-use Rattle.line_record.specs.Effect.{longestOutput, withOutput, withoutOutput}
+use Rattle.protocol.specs.Effect.{longestOutput, withOutput, withoutOutput}
 use Rattle.line_record.specs.Plant.{refusedMessage, asks, plantMessage}
 use Rattle.line_record.specs.Held.{plantEffect, messageEffect, messageCalls, isClosed, leaving, settle, gather, longestIncomplete}
 use Rattle.line_record.specs.Record.{NextRecord, refusedRecord, found, opens, leaves, came, mostDataKind, maxArrived, knownKind, dataSize, knownConnection, recordOf, nextRecord}

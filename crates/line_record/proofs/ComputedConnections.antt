@@ -21,7 +21,7 @@ use Rattle.protocol.specs.Judge.{openConnection, leave, clientMessage, judgeHel
 use Rattle.protocol.specs.Step.{execute, callStep, freshStart}
 use Rattle.protocol.specs.Run.{memoryAfterRun}
 use Rattle.protocol.proofs.Computed.{stale}
-use Rattle.line_record.specs.Effect.{longestOutput, withOutput, withoutOutput}
+use Rattle.protocol.specs.Effect.{longestOutput, withOutput, withoutOutput}
 use Rattle.line_record.specs.Plant.{plantMessage}
 use Rattle.line_record.specs.Held.{plantEffect, messageEffect, messageCalls, isClosed, leaving, settle, gather}
 use Rattle.line_record.specs.Record.{refusedRecord, knownKind, dataSize, knownConnection, recordOf, nextRecord}

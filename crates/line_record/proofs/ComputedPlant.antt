@@ -21,7 +21,7 @@ use Rattle.protocol.specs.Judge.{leave, localCreate, localWrite, judgeCreate, j
 use Rattle.protocol.specs.Step.{LentCall, execute, callStep, freshStart}
 use Rattle.protocol.specs.Run.{memoryAfterRun}
 use Rattle.protocol.proofs.Computed.{stale}
-use Rattle.line_record.specs.Effect.{longestOutput, withOutput, withoutOutput}
+use Rattle.protocol.specs.Effect.{longestOutput, withOutput, withoutOutput}
 use Rattle.line_record.specs.Plant.{refusedMessage, plantMessage}
 use Rattle.line_record.specs.Held.{plantEffect, messageEffect, messageCalls, isClosed, leaving, settle, gather}
 use Rattle.line_record.specs.Record.{knownKind, dataSize, knownConnection, recordOf, nextRecord}

@@ -29,7 +29,7 @@ use Rattle.protocol.proofs.AnswerLaws.{not-refused, call-answered}
 use Rattle.protocol.proofs.ProgressLaws.{call-progress}
 use Rattle.protocol.proofs.SoundnessLaws.{sound-kept}
 use Rattle.convergence.proofs.RunLaws.{sound-run}
-use Rattle.line_record.specs.Effect.{Effect, effectOf, longestOutput, withOutput}
+use Rattle.protocol.specs.Effect.{Effect, effectOf, longestOutput, withOutput}
 use Rattle.line_record.specs.Plant.{PlantMessage, refusedMessage, asks, plantNumber, plantCreate, plantWrite, plantMessage}
 use Rattle.line_record.specs.Held.{plantEffect, clientCall, messageEffect, Settled, leaving, settle, gather, longestIncomplete, IncompleteShort, GatherShort}
 use Rattle.line_record.proofs.ShortLaws.{not-incomplete, AssignmentShort, assignment-short, UpdateShort, update-short}

@@ -25,7 +25,7 @@ use Rattle.protocol.specs.Copy.{copyFreshStart}
 use Rattle.protocol.specs.Run.{memoryAfterRun, afterStartAndCalls, addressedByCall, addressedBytes, helloCall, StaysWithoutOwnUpdate}
 use Rattle.protocol.proofs.Computed.{stale, lent}
 use Rattle.convergence.specs.Demand.{CopyHoldsServerEntries}
-use Rattle.line_record.specs.Effect.{longestOutput, withOutput, withoutOutput}
+use Rattle.protocol.specs.Effect.{longestOutput, withOutput, withoutOutput}
 use Rattle.line_record.specs.Plant.{plantMessage}
 use Rattle.line_record.specs.Held.{plantEffect, messageEffect, messageCalls, isClosed, leaving, settle, gather}
 use Rattle.line_record.specs.Record.{knownKind, dataSize, knownConnection, recordOf, nextRecord}

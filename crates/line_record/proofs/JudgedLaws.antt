@@ -15,7 +15,7 @@ use Rattle.answer.specs.Answers.{goesOn}
 use Rattle.soundness.specs.Sound.{connections, closed}
 use Rattle.protocol.specs.Step.{ServerMemory, LentCall}
 use Rattle.protocol.specs.Run.{memoryAfterRun}
-use Rattle.line_record.specs.Effect.{Effect}
+use Rattle.protocol.specs.Effect.{Effect}
 use Rattle.line_record.specs.Held.{messageEffect, messageCalls, Settled, settled, isClosed, leaving, settle, gather}
 use Rattle.line_record.specs.Record.{opens, leaves, came}
 use Rattle.line_record.specs.Replay.{stepRecord}

@@ -21,7 +21,7 @@ use Rattle.protocol.proofs.AnswerLaws.{call-answered}
 use Rattle.protocol.proofs.DoneLaws.{open-done, leave-done}
 use Rattle.protocol.proofs.RefusedLaws.{too-high-refused, closed-refused, open-again-refused}
 use Rattle.protocol.proofs.SoundnessLaws.{sound-kept, start-sound}
-use Rattle.line_record.specs.Effect.{Effect, withOutput, withoutOutput}
+use Rattle.protocol.specs.Effect.{Effect, withOutput, withoutOutput}
 use Rattle.line_record.specs.Plant.{PlantMessage, refusedMessage, asks}
 use Rattle.line_record.specs.Held.{plantEffect, clientCall, messageEffect, Settled, isClosed, settle, gather, longestIncomplete}
 use Rattle.line_record.specs.Record.{Record, opens, leaves, came, NextRecord, refusedRecord, found, nextRecord, recordedConnections}

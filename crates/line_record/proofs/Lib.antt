@@ -14,6 +14,5 @@ pub mod Computed
 pub mod ComputedPlant
 pub mod ComputedConnections
 pub mod Instance
-pub mod RoomLaws
 pub mod RoomRunLaws
 pub mod StartLaws

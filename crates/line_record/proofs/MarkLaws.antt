@@ -26,7 +26,7 @@ use Rattle.recipients.specs.Recipients.{Recipients}
 use Rattle.protocol.specs.Judge.{Call, leave, clientMessage, localCreate, localWrite, Verdict, refuse, ignore, closeMark, acceptHello, unsupportedRevision, storeNew, storeUpdate, newId, judgeHello, judgeAssignment, judgeUpdate, judgeKind, judgeMessage, judgeCreate, judgeWrite, judge}
 use Rattle.protocol.specs.Step.{ServerMemory, LentCall, CallResult, withMark, withTable, execute, callStep}
 use Rattle.protocol.specs.Run.{memoryAfterRun}
-use Rattle.line_record.specs.Effect.{Effect, withOutput, withoutOutput}
+use Rattle.protocol.specs.Effect.{Effect, withOutput, withoutOutput}
 use Rattle.line_record.specs.Plant.{PlantMessage, refusedMessage, asks, plantCreate, plantWrite, plantMessage}
 use Rattle.line_record.specs.Held.{plantEffect, clientCall, messageEffect, Settled, leaving, settle, gather}
 

@@ -11,14 +11,14 @@ use Rattle.protocol.specs.Step.{ServerMemory, LentCall, callStep, freshStart}
 use Rattle.protocol.specs.Run.{memoryAfterRun}
 use Rattle.protocol.specs.Kept.{SoundMemory}
 use Rattle.protocol.proofs.SoundnessLaws.{step-is, sound-kept, start-sound}
-use Rattle.line_record.specs.Effect.{Effect, effectOf, withOutput}
+use Rattle.protocol.specs.Effect.{Effect, effectOf, withOutput}
 use Rattle.line_record.specs.Plant.{PlantMessage, refusedMessage, asks, plantMessage}
 use Rattle.line_record.specs.Held.{plantCalls, messageEffect, messageCalls, Settled, leaving, settle, gather}
 use Rattle.line_record.specs.Record.{Record, opens, leaves, came, NextRecord, refusedRecord, found, nextRecord}
 use Rattle.line_record.specs.Replay.{RunState, runState, stepRecord, advanceOn, advance, Ran, run, noneHeld, replay}
 use Rattle.line_record.specs.Demand.{HasRoom, EachHasRoom, ReplayHasRoom, SameCalls, SameMemory, ReplayIsCallsByHand}
 use Rattle.line_record.proofs.CallsLaws.{replay-is-calls}
-use Rattle.line_record.proofs.RoomLaws.{sends, withRoom, executed-with-room, length-longest, call-with-room}
+use Rattle.protocol.proofs.RoomLaws.{sends, withRoom, executed-with-room, length-longest, call-with-room}
 
 -- ---- each call of a replay has room
 

@@ -11,7 +11,7 @@ use Rattle.protocol.specs.Step.{ServerMemory, LentCall, callStep, freshStart}
 use Rattle.protocol.specs.Run.{afterStartAndCalls}
 use Rattle.protocol.specs.Kept.{SoundMemory}
 use Rattle.protocol.specs.Answered.{RightlyAnswered}
-use Rattle.line_record.specs.Effect.{withoutOutput}
+use Rattle.protocol.specs.Effect.{withoutOutput}
 use Rattle.line_record.specs.Held.{messageEffect, messageCalls, Kept, keeping, settled, gather, longestIncomplete}
 use Rattle.line_record.specs.Record.{Record, opens, leaves, came, recordedConnections, recordHeadSize, dataSize}
 use Rattle.line_record.specs.Replay.{RunState, stepRecord, advance, behind, run, replay, resultOf}

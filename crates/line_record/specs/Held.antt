@@ -15,7 +15,7 @@ use Rattle.soundness.specs.Sound.{connections, closed}
 use Rattle.protocol.specs.Judge.{leave, clientMessage}
 use Rattle.protocol.specs.Step.{ServerMemory, LentCall, callStep}
 use Rattle.protocol.specs.Run.{memoryAfterRun}
-use Rattle.line_record.specs.Effect.{Effect, effectOf, withOutput, withoutOutput}
+use Rattle.protocol.specs.Effect.{Effect, effectOf, withOutput, withoutOutput}
 use Rattle.line_record.specs.Plant.{PlantMessage, refusedMessage, asks, plantMessage}
 
 -- ---- one message

@@ -1,4 +1,3 @@
-pub mod Effect
 pub mod Plant
 pub mod Held
 pub mod Record

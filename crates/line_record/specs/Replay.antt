@@ -8,7 +8,7 @@ use Rattle.field.specs.Choice.{pick, demand}
 use Rattle.field.specs.Field.{demandBytes}
 use Rattle.protocol.specs.Judge.{openConnection, leave}
 use Rattle.protocol.specs.Step.{ServerMemory, LentCall, callStep, freshStart}
-use Rattle.line_record.specs.Effect.{withoutOutput}
+use Rattle.protocol.specs.Effect.{withoutOutput}
 use Rattle.line_record.specs.Held.{gather}
 use Rattle.line_record.specs.Record.{Record, opens, leaves, came, NextRecord, refusedRecord, found, nextRecord, recordedConnections}
 

@@ -7,7 +7,8 @@ use Prim.Native.Nat.{ℕ, _+_, _-_, _≤_, _<_}
 use native.Mathlib.Omega.{arith}
 use lib.ListN.{length, take, drop, getD, length-drop}
 use lib.Seq.{drop-drop}
-use borrow.Author.Tests.{leb-true, eqb-true, ne-eqb}
+use lib.Dec.{leb}
+use borrow.Author.Tests.{leb-true, leb-false, eqb-true, ne-eqb}
 use Rattle.field.specs.Answer.{unknownType}
 use Rattle.field.specs.Choice.{pick}
 use Rattle.field.specs.Octets.{decode16}
@@ -30,7 +31,7 @@ use Rattle.value.proofs.FailsLaws.{value-refuses, value-of-known, value-within}
 use Rattle.reader.specs.Reader.{parseTextAt, parseValueAt}
 use Rattle.message.specs.Layout.{assignmentKind, updateKind}
 use Rattle.message.specs.Reader.{idAllowed, parseBehindId, parseAfterName, parseAssignment, parseBehindUpdateId, parseUpdate, parseRevision, ofAssignment, typeGiven, ofUpdate, parseByKind, parseMessage, numberOf, placeOf}
-use Rattle.places.specs.MessageFails.{nameLengthIn, typeStart, valueStart, updateIdIn, NameStands, AssignmentFailsAt, AssignmentFails, UpdateFailsAt, UpdateFails, MessageFailsAt, PlaceInMessage, ReadingFailsAt, ReadingTells}
+use Rattle.places.specs.MessageFails.{nameLengthIn, typeStart, valueStart, assignmentIdIn, updateIdIn, NameStands, TypeStands, AssignmentFailsAt, AssignmentFails, UpdateFailsAt, UpdateFails, MessageFailsAt, PlaceInMessage, ReadingFailsAt, ReadingTells}
 use Rattle.message.specs.declared.AllowedId.the-variants.{Any}
 use Rattle.message.specs.declared.AssignmentRead.{AssignmentRead}
 use Rattle.message.specs.declared.AssignmentRead.the-variants as A
@@ -41,28 +42,28 @@ use Rattle.message.specs.declared.Decoded.the-variants as D
 
 -- ---- an assignment
 
-pub data AssignmentRefuses (m : List ℕ) : AssignmentRead → Type 0 where
-  refused : {fault : Fault} → AssignmentFailsAt m (fault .number) (fault .place) → AssignmentRefuses m (A.Refused fault)
-  taken : {n t id q v : ℕ} → AssignmentRefuses m (A.Assignment t id q n v)
+pub data AssignmentRefuses (allowed : ℕ → Bool) (m : List ℕ) : AssignmentRead → Type 0 where
+  refused : {fault : Fault} → AssignmentFailsAt allowed m (fault .number) (fault .place) → AssignmentRefuses allowed m (A.Refused fault)
+  taken : {n t id q v : ℕ} → AssignmentRefuses allowed m (A.Assignment t id q n v)
 
 module _ (allowed : ℕ → Bool) (m : List ℕ) where
   P : AssignmentRead → Type 0
-  P = AssignmentRefuses m
+  P = AssignmentRefuses allowed m
 
-  at : (number place : ℕ) → AssignmentFailsAt m number place → P (A.Refused (faultAt number place))
+  at : (number place : ℕ) → AssignmentFailsAt allowed m number place → P (A.Refused (faultAt number place))
   unfolding P
   at number place h = AssignmentRefuses.refused h
 
-  value-part : (id q : ℕ) → NameStands m → knownType (getD m (typeStart m) 0) ≡ true → typeStart m + 5 ≤ length m
+  value-part : (id q : ℕ) → TypeStands m → allowed (assignmentIdIn m) ≡ true → typeStart m + 5 ≤ length m
       → P (andThen A.Refused (parseValueAt (getD m (typeStart m) 0) (typeStart m + 5) m) (λ v. A.Assignment (getD m (typeStart m) 0) id q (nameLengthIn m) v))
   unfolding P parseValueAt
-  value-part id q name known there =
+  value-part id q type ok there =
       let start : typeStart m + 5 ≡ valueStart m = omega arith in
       rw start (go _ (value-refuses (getD m (typeStart m) 0) (drop (valueStart m) m)))
     where
       go : (r : Parsed) → Refuses (ValueFailsAt (getD m (typeStart m) 0) (drop (valueStart m) m)) r
           → P (andThen A.Refused (movedBy (valueStart m) r) (λ v. A.Assignment (getD m (typeStart m) 0) id q (nameLengthIn m) v))
-      go (Refused fault) (Refuses.refused h) = AssignmentRefuses.refused (AssignmentFailsAt.value name known (omega arith) h)
+      go (Refused fault) (Refuses.refused h) = AssignmentRefuses.refused (AssignmentFailsAt.value type ok (omega arith) h)
       go (Taken v) h = AssignmentRefuses.taken
 
   after-name : NameStands m → P (parseAfterName allowed (typeStart m) m)
@@ -71,21 +72,36 @@ module _ (allowed : ℕ → Bool) (m : List ℕ) where
       let n-is : typeStart m - 3 ≡ nameLengthIn m = omega arith in
       rw n-is
       (by-test P _ _ _ (λ there.
-      by-test P _ _ _ (λ known.
-      by-test P _ _ _ (λ _.
-      by-test P _ _ _ (λ _.
-      by-test P _ _ _ (λ l. value-part _ _ name known (leb-true _ _ l))
-      (λ _. at 1 (typeStart m + 3) (AssignmentFailsAt.elsewhere (omega arith)))) (λ _. at 5 (typeStart m + 1) (AssignmentFailsAt.elsewhere (omega arith))))
-      (λ _. at 1 (typeStart m + 1) (AssignmentFailsAt.elsewhere (omega arith))))
+      by-test P _ _ _ (λ known. behind-type (stands (leb-true _ _ there) known))
       (λ k. at 7 (typeStart m) (AssignmentFailsAt.type name (omega (arith, leb-true (typeStart m + 1) (length m) there)) k)))
-      (λ _. at 1 (typeStart m) (AssignmentFailsAt.elsewhere (omega arith))))
+      (λ cut. at 1 (typeStart m) (AssignmentFailsAt.cut-type name (leb-false (typeStart m + 1) (length m) cut))))
+    where
+      stands : typeStart m + 1 ≤ length m → knownType (getD m (typeStart m) 0) ≡ true → TypeStands m
+      stands there known = record { name = name; there = omega arith; known = known }
 
-  pub assignment-refuses : AssignmentRefuses m (parseAssignment allowed m)
+      behind-type : TypeStands m
+          → P (pick (leb (typeStart m + 3) (length m))
+          (pick (allowed (assignmentIdIn m))
+          (pick (leb (typeStart m + 5) (length m))
+          (andThen A.Refused (parseValueAt (getD m (typeStart m) 0) (typeStart m + 5) m)
+          (λ v. A.Assignment (getD m (typeStart m) 0) (assignmentIdIn m) (decode16 (drop (typeStart m + 3) m)) (nameLengthIn m) v))
+          (A.Refused (faultAt 1 (typeStart m + 3))))
+          (A.Refused (faultAt 5 (typeStart m + 1))))
+          (A.Refused (faultAt 1 (typeStart m + 1))))
+      behind-type type =
+          by-test P _ _ _ (λ id.
+          by-test P _ _ _ (λ ok.
+          by-test P _ _ _ (λ l. value-part _ _ type ok (leb-true _ _ l))
+          (λ cut. at 1 (typeStart m + 3) (AssignmentFailsAt.cut-number type ok (leb-true _ _ id) (omega (arith, leb-false (typeStart m + 5) (length m) cut)))))
+          (λ other. at 5 (typeStart m + 1) (AssignmentFailsAt.wrong-id type (leb-true _ _ id) other)))
+          (λ cut. at 1 (typeStart m + 1) (AssignmentFailsAt.cut-id type (leb-false _ _ cut)))
+
+  pub assignment-refuses : AssignmentRefuses allowed m (parseAssignment allowed m)
   unfolding P parseAssignment parseTextAt
   assignment-refuses = go (parseText 66 0 (drop 1 m)) (text-is 66 0 (drop 1 m)) (text-refuses 66 0 (drop 1 m))
     where
       go : (r : Parsed) → TextIs 66 0 (drop 1 m) r → Refuses (TextFailsAt 66 0 (drop 1 m)) r
-          → AssignmentRefuses m (andThen A.Refused (movedBy 1 r) (λ size. parseAfterName allowed (1 + size) m))
+          → AssignmentRefuses allowed m (andThen A.Refused (movedBy 1 r) (λ size. parseAfterName allowed (1 + size) m))
       go (Refused fault) f (Refuses.refused h) = AssignmentRefuses.refused (AssignmentFailsAt.name h)
       go (Taken k) (TextIs.taken e l h u f) g =
           let place : 1 + k ≡ typeStart m = omega arith in
@@ -96,7 +112,7 @@ module _ (allowed : ℕ → Bool) (m : List ℕ) where
 pub assignment-fails : AssignmentFails
 assignment-fails allowed m fault e = go (rw e at (assignment-refuses allowed m))
   where
-    go : AssignmentRefuses m (A.Refused fault) → AssignmentFailsAt m (fault .number) (fault .place)
+    go : AssignmentRefuses allowed m (A.Refused fault) → AssignmentFailsAt allowed m (fault .number) (fault .place)
     go (AssignmentRefuses.refused h) = h
 
 -- ---- an update
@@ -104,14 +120,16 @@ assignment-fails allowed m fault e = go (rw e at (assignment-refuses allowed m))
 pub data UpdateRefuses (held : ℕ → Bool) (typeOf : ℕ → ℕ) (m : List ℕ) : UpdateRead → Type 0 where
   type-unknown : {fault : Fault} → fault .number ≡ unknownType → held (updateIdIn m) ≡ true → knownType (typeOf (updateIdIn m)) ≡ false
       → UpdateRefuses held typeOf m (U.Refused fault)
-  refused : {fault : Fault} → fault .number ≢ unknownType → UpdateFailsAt typeOf m (fault .number) (fault .place) → UpdateRefuses held typeOf m (U.Refused fault)
+  refused : {fault : Fault} → fault .number ≢ unknownType → UpdateFailsAt held typeOf m (fault .number) (fault .place) → UpdateRefuses held typeOf m (U.Refused fault)
   taken : {id q v : ℕ} → UpdateRefuses held typeOf m (U.Update id q v)
 
 pub update-refuses : (held : ℕ → Bool) (typeOf : ℕ → ℕ) (m : List ℕ) → UpdateRefuses held typeOf m (parseUpdate held typeOf m)
 unfolding parseBehindUpdateId parseUpdate parseValueAt
 update-refuses held typeOf m =
-    by-test P _ _ _ (λ _. by-test P _ _ _ (λ h. by-test P _ _ _ (λ l. by-type h (leb-true _ _ l) (knownType type) refl)
-    (λ _. early 1 3 (omega arith))) (λ _. early 6 1 (omega arith))) (λ _. early 1 1 (omega arith))
+    by-test P _ _ _ (λ there. by-test P _ _ _ (λ h. by-test P _ _ _ (λ l. by-type h (leb-true _ _ l) (knownType type) refl)
+    (λ cut. early 1 3 (omega arith) (UpdateFailsAt.cut-number h (leb-true _ _ there) (leb-false _ _ cut))))
+    (λ h. early 6 1 (omega arith) (UpdateFailsAt.unknown-id (leb-true _ _ there) h)))
+    (λ cut. early 1 1 (omega arith) (UpdateFailsAt.cut-id (leb-false _ _ cut)))
   where
     P : UpdateRead → Type 0
     P = UpdateRefuses held typeOf m
@@ -119,52 +137,57 @@ update-refuses held typeOf m =
     type : ℕ
     type = typeOf (updateIdIn m)
 
-    early : (number place : ℕ) → number < 7 → P (U.Refused (faultAt number place))
-    early number place h =
+    early : (number place : ℕ) → number < 7 → UpdateFailsAt held typeOf m number place → P (U.Refused (faultAt number place))
+    early number place l h =
         let other : number ≢ 7 = λ e. omega arith in
-        UpdateRefuses.refused other (UpdateFailsAt.elsewhere h)
+        UpdateRefuses.refused other h
 
-    go : 5 ≤ length m → knownType type ≡ true → (r : Parsed) → Refuses (ValueFailsAt type (drop 5 m)) r
+    go : held (updateIdIn m) ≡ true → 5 ≤ length m → knownType type ≡ true → (r : Parsed) → Refuses (ValueFailsAt type (drop 5 m)) r
         → P (andThen U.Refused (movedBy 5 r) (λ v. U.Update (updateIdIn m) (decode16 (drop 3 m)) v))
-    go l known (Refused fault) (Refuses.refused h) =
-        UpdateRefuses.refused (value-of-known type (drop 5 m) (fault .number) (fault .place) known h) (UpdateFailsAt.value known l h)
-    go l known (Taken v) h = UpdateRefuses.taken
+    go held-is l known (Refused fault) (Refuses.refused h) =
+        UpdateRefuses.refused (value-of-known type (drop 5 m) (fault .number) (fault .place) known h) (UpdateFailsAt.value held-is known l h)
+    go held-is l known (Taken v) h = UpdateRefuses.taken
 
     by-type : held (updateIdIn m) ≡ true → 5 ≤ length m → (known : Bool) → knownType type ≡ known
         → P (andThen U.Refused (movedBy 5 (parseValue type (drop 5 m))) (λ v. U.Update (updateIdIn m) (decode16 (drop 3 m)) v))
-    by-type h l true k = go l k _ (value-refuses type (drop 5 m))
+    by-type h l true k = go h l k _ (value-refuses type (drop 5 m))
     by-type h l false k = rw (value-unknown type (drop 5 m) k) (UpdateRefuses.type-unknown refl h k)
 
 pub update-fails : UpdateFails
 update-fails held typeOf m known fault e = go (rw e at (update-refuses held typeOf m))
   where
-    go : UpdateRefuses held typeOf m (U.Refused fault) → UpdateFailsAt typeOf m (fault .number) (fault .place)
+    go : UpdateRefuses held typeOf m (U.Refused fault) → UpdateFailsAt held typeOf m (fault .number) (fault .place)
     go (UpdateRefuses.type-unknown n h k) = absurd (false≢true (sym k ∙ known _ h))
     go (UpdateRefuses.refused n h) = h
 
 -- ---- a message
 
 pub place-in-message : PlaceInMessage
-place-in-message typeOf m number place (MessageFailsAt.assignment k f) tells = go number place f tells
+place-in-message ids m number place (MessageFailsAt.assignment k f) tells = go number place f tells
   where
-    go : (number place : ℕ) → AssignmentFailsAt m number place → TellsPlace number → place < length m
+    go : (number place : ℕ) → AssignmentFailsAt (ids .allowed) m number place → TellsPlace number → place < length m
     go number place (AssignmentFailsAt.name {place = inner} h) tells = omega (arith, text-within 66 0 (drop 1 m) number inner h tells, length-drop 1 m)
     go number place (AssignmentFailsAt.type name there h) tells = there
-    go number place (AssignmentFailsAt.value {place = inner} name known there h) tells =
-        omega (arith, value-within (getD m (typeStart m) 0) (drop (valueStart m) m) number inner known h tells, length-drop (valueStart m) m)
-    go number place (AssignmentFailsAt.elsewhere l) tells = absurd (omega arith)
-place-in-message typeOf m number place (MessageFailsAt.update k f) tells = go number place f tells
+    go number place (AssignmentFailsAt.cut-type name l) tells = absurd (omega arith)
+    go number place (AssignmentFailsAt.wrong-id type there other) tells = absurd (omega arith)
+    go number place (AssignmentFailsAt.cut-id type l) tells = absurd (omega arith)
+    go number place (AssignmentFailsAt.cut-number type ok there l) tells = absurd (omega arith)
+    go number place (AssignmentFailsAt.value {place = inner} type ok there h) tells =
+        omega (arith, value-within (getD m (typeStart m) 0) (drop (valueStart m) m) number inner (type .known) h tells, length-drop (valueStart m) m)
+place-in-message ids m number place (MessageFailsAt.update k f) tells = go number place f tells
   where
-    go : (number place : ℕ) → UpdateFailsAt typeOf m number place → TellsPlace number → place < length m
-    go number place (UpdateFailsAt.value {place = inner} known there h) tells =
-        omega (arith, value-within (typeOf (updateIdIn m)) (drop 5 m) number inner known h tells, length-drop 5 m)
-    go number place (UpdateFailsAt.elsewhere l) tells = absurd (omega arith)
+    go : (number place : ℕ) → UpdateFailsAt (ids .held) (ids .typeOf) m number place → TellsPlace number → place < length m
+    go number place (UpdateFailsAt.unknown-id there h) tells = absurd (omega arith)
+    go number place (UpdateFailsAt.cut-id l) tells = absurd (omega arith)
+    go number place (UpdateFailsAt.cut-number h there l) tells = absurd (omega arith)
+    go number place (UpdateFailsAt.value {place = inner} held known there h) tells =
+        omega (arith, value-within (ids .typeOf (updateIdIn m)) (drop 5 m) number inner known h tells, length-drop 5 m)
 
 module _ (t : ℕ) (m : List ℕ) where
   Tells : Decoded → Type 0
   Tells d = Told (ReadingFailsAt t m) (numberOf d) (placeOf d)
 
-  of-assignment : getD m 0 0 ≡ assignmentKind → (a : AssignmentRead) → AssignmentRefuses m a → Tells (ofAssignment a)
+  of-assignment : getD m 0 0 ≡ assignmentKind → (a : AssignmentRead) → AssignmentRefuses (idAllowed Any) m a → Tells (ofAssignment a)
   unfolding Tells
   of-assignment k (A.Refused fault) (AssignmentRefuses.refused h) = told _ fault (λ _. ReadingFailsAt.in-message (MessageFailsAt.assignment k h))
   of-assignment k (A.Assignment type id number n v) h = untold _ 0 (λ tells. omega arith)

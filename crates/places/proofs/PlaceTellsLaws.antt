@@ -35,13 +35,13 @@ use Rattle.protocol.specs.Copy as C
 use Rattle.protocol.specs.Copy.{CopyVerdict, judgeCopyAssignment, judgeCopyUpdate, judgeCopyKind, judgeCopy, executeCopy, copyMessage}
 use Rattle.protocol.specs.Place.{placeOf, callPlace, copyPlaceOf, copyPlace}
 use Rattle.protocol.specs.Taken.{messageCall}
-use Rattle.places.specs.PlaceTells.{storedType, CallFailsAt, CallTells, CallPlaceInMessage, CopyTells, CopyPlaceInMessage}
+use Rattle.places.specs.PlaceTells.{storedType, copyIds, CallFailsAt, CallTells, CallPlaceInMessage, CopyTells, CopyPlaceInMessage}
 
 -- the types of held entries are known
-KnownTypes : List Entry → Type 0
+unfoldable pub KnownTypes : List Entry → Type 0
 KnownTypes es = (id : ℕ) → id < length es → knownType (storedType es id) ≡ true
 
-sound-types : (limit : ℕ) (m : TableMemory) → soundTable limit m ≡ true → KnownTypes (entriesOf m)
+pub sound-types : (limit : ℕ) (m : TableMemory) → soundTable limit m ≡ true → KnownTypes (entriesOf m)
 unfolding KnownTypes
 sound-types limit m s id l = value-known _ _ _ (entries-well-formed limit m s id l .value-whole)
 
@@ -83,7 +83,7 @@ no-field : (F : ℕ → ℕ → Type 0) (number place : ℕ) → (TellsPlace num
 no-field F number place other = VerdictFails.refused (λ tells. absurd (other tells))
 
 module _ (limit : ℕ) (es : List Entry) (known : KnownTypes es) where
-  assignment-fails : (c : ℕ) (m : List ℕ) → getD m 0 0 ≡ assignmentKind → (r : AssignmentRead) → AssignmentRefuses m r
+  assignment-fails : (c : ℕ) (m : List ℕ) → getD m 0 0 ≡ assignmentKind → (r : AssignmentRead) → AssignmentRefuses (idAllowed (Only newId)) m r
       → VerdictFails (CallFailsAt es (clientMessage c m)) (judgeAssignment limit es m r)
   unfolding judgeAssignment
   assignment-fails c m k (A.Refused fault) (AssignmentRefuses.refused h) = refused (λ _. CallFailsAt.in-message (MessageFailsAt.assignment k h))
@@ -198,13 +198,13 @@ copy-executed table F (C.storeUpdate id number value taken) f = untold F 0 (λ t
 
 module _ (limit : ℕ) (es : List Entry) (known : KnownTypes es) (m : List ℕ) where
   P : CopyVerdict → Type 0
-  P = CopyFails (MessageFailsAt (storedType es) m)
+  P = CopyFails (MessageFailsAt (copyIds es) m)
 
   no-copy-field : (number place : ℕ) → (TellsPlace number → ⊥) → P (C.refuse (faultAt number place))
   unfolding P
   no-copy-field number place other = CopyFails.refused (λ tells. absurd (other tells))
 
-  copy-assignment-fails : getD m 0 0 ≡ assignmentKind → (r : AssignmentRead) → AssignmentRefuses m r → P (judgeCopyAssignment limit es m r)
+  copy-assignment-fails : getD m 0 0 ≡ assignmentKind → (r : AssignmentRead) → AssignmentRefuses (idAllowed (Only (length es))) m r → P (judgeCopyAssignment limit es m r)
   unfolding P judgeCopyAssignment
   copy-assignment-fails k (A.Refused fault) (AssignmentRefuses.refused h) = CopyFails.refused (λ _. MessageFailsAt.assignment k h)
   copy-assignment-fails k (A.Assignment t id q n v) h =
@@ -217,7 +217,7 @@ module _ (limit : ℕ) (es : List Entry) (known : KnownTypes es) (m : List ℕ) 
   copy-update-fails k (U.Refused fault) (UpdateRefuses.refused n h) = CopyFails.refused (λ _. MessageFailsAt.update k h)
   copy-update-fails k (U.Update id q v) h = CopyFails.updated
 
-  copy-fails : CopyFails (MessageFailsAt (storedType es) m) (judgeCopy limit es m)
+  copy-fails : CopyFails (MessageFailsAt (copyIds es) m) (judgeCopy limit es m)
   unfolding P judgeCopy judgeCopyKind
   copy-fails =
       by-test P _ _ _ (λ _.
@@ -233,7 +233,7 @@ unfolding copyMessage copyPlace executeCopy pick
 copy-tells limit table m = go (soundTable limit table) refl
   where
     F : ℕ → ℕ → Type 0
-    F = MessageFailsAt (storedType (entriesOf table)) m
+    F = MessageFailsAt (copyIds (entriesOf table)) m
 
     v : CopyVerdict
     v = judgeCopy limit (entriesOf table) m

@@ -5,7 +5,7 @@ use Rattle.field.specs.Choice.{pick}
 use Rattle.answer.specs.Answers.{goesOn}
 use Rattle.protocol.specs.Judge.{Call}
 use Rattle.protocol.specs.Step.{ServerMemory, callStep}
-use Rattle.line_record.specs.Effect.{Effect, effectOf, withOutput}
+use Rattle.protocol.specs.Effect.{Effect, effectOf, withOutput}
 use Rattle.line_record.specs.Plant.{asks}
 use Rattle.line_record.specs.Held.{plantEffect}
 

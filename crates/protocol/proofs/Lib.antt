@@ -14,3 +14,4 @@ pub mod CopyTakenLaws
 pub mod ComputedCopy
 pub mod CopyDoneLaws
 pub mod RefusedLaws
+pub mod RoomLaws

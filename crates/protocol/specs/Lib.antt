@@ -12,3 +12,4 @@ pub mod Done
 pub mod CopyTaken
 pub mod CopyDone
 pub mod Refused
+pub mod Effect

@@ -2,7 +2,7 @@
 use std::num::wrapping_add_u16;
 use std::num::wrapping_sub_u16;
 ghost use mathlib.Core.Path.{_≡_};
-ghost use Rattle.sequence.specs.SequenceNumber.{start, nextNumber, passedBy};
+ghost use Rattle.sequence.specs.SequenceNumber.{start, nextNumber, distance, passedBy};
 
 pub struct SequenceNumber(pub u16);
 
@@ -24,6 +24,15 @@ impl SequenceNumber {
     {
         let n = self.0;
         SequenceNumber(wrapping_add_u16(n, 1))
+    }
+
+    // Received minus stored, modulo 65,536.
+    pub fn distance(self, received: SequenceNumber) -> u16
+        ensures { λ r. ⌜ r ≡ distance (self .0) (received .0) ⌝ }
+    {
+        let stored = self.0;
+        let got = received.0;
+        wrapping_sub_u16(got, stored)
     }
 
     // Whether the received number is strictly greater than this stored one.

@@ -21,7 +21,7 @@ use Rattle.protocol.specs.Kept.{SoundMemory}
 use Rattle.protocol.specs.Refused.{Concerns}
 use Rattle.protocol.proofs.SoundnessLaws.{sound-kept}
 use Rattle.protocol.proofs.RefusedLaws.{too-high-refused}
-use Rattle.line_record.specs.Effect.{withoutOutput}
+use Rattle.protocol.specs.Effect.{withoutOutput}
 use Rattle.line_record.specs.Held.{Kept, keeping, gather, longestIncomplete}
 use Rattle.line_record.specs.Record.{opens, leaves, came, opensKind, leavesKind, recordOf, recordedConnections}
 use Rattle.line_record.specs.Replay.{RunState, stepRecord}

@@ -14,7 +14,7 @@ ghost use Rattle.soundness.specs.Sound.{soundTable, soundMarks};
 ghost use Rattle.protocol.specs.Judge.{leave};
 ghost use Rattle.protocol.specs.Step.{callStep};
 ghost use Rattle.protocol.specs.Lent.{besideMarks, lentServer};
-ghost use Rattle.line_record.specs.Effect.{withoutOutput};
+ghost use Rattle.protocol.specs.Effect.{withoutOutput};
 ghost use Rattle.line_record.specs.Record.{came, opensKind, leavesKind, recordOf, maxArrived, recordedConnections};
 ghost use Rattle.line_record.specs.Replay.{stepRecord};
 ghost use Rattle.slots.specs.Slots.{stateOf, Ready};

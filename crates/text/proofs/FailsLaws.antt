@@ -22,9 +22,9 @@ unfolding parseText
 text-refuses maxSize sizeSoFar s =
     by-test P _ _ _ (λ there. by-test P _ _ _ (λ _. by-test P _ _ _ (λ all. by-test P _ _ _ (λ _. Refuses.taken)
     (λ u. refuses-with F 9 2 (TextFailsAt.not-text (leb-true _ _ all) u)))
-    (λ _. refuses-with F 1 2 TextFailsAt.not-whole))
+    (λ cut. refuses-with F 1 2 (TextFailsAt.cut-text (leb-true _ _ there) (leb-false _ _ cut))))
     (λ l. refuses-with F 10 0 (TextFailsAt.long-text (leb-true _ _ there) (leb-false _ _ l))))
-    (λ _. refuses-with F 1 0 TextFailsAt.not-whole)
+    (λ cut. refuses-with F 1 0 (TextFailsAt.cut-prefix (leb-false _ _ cut)))
   where
     F : ℕ → ℕ → Type 0
     F = TextFailsAt maxSize sizeSoFar s
@@ -39,7 +39,8 @@ text-fails maxSize sizeSoFar s fault e = refused-with (TextFailsAt maxSize sizeS
 pub text-number : (maxSize sizeSoFar : ℕ) (s : List ℕ) (number place : ℕ) → TextFailsAt maxSize sizeSoFar s number place → number ≢ unknownType
 text-number maxSize sizeSoFar s number place (TextFailsAt.long-text there l) e = omega arith
 text-number maxSize sizeSoFar s number place (TextFailsAt.not-text all u) e = omega arith
-text-number maxSize sizeSoFar s number place TextFailsAt.not-whole e = omega arith
+text-number maxSize sizeSoFar s number place (TextFailsAt.cut-prefix l) e = omega arith
+text-number maxSize sizeSoFar s number place (TextFailsAt.cut-text there l) e = omega arith
 
 -- a text that is not UTF-8 has a byte
 pub some-byte : (n : ℕ) (s : List ℕ) → isUtf8 (take n s) ≡ false → 0 < n
@@ -51,4 +52,5 @@ some-byte (suc n) s u = omega arith
 pub text-within : (maxSize sizeSoFar : ℕ) (s : List ℕ) (number place : ℕ) → TextFailsAt maxSize sizeSoFar s number place → TellsPlace number → place < length s
 text-within maxSize sizeSoFar s number place (TextFailsAt.long-text there l) tells = omega arith
 text-within maxSize sizeSoFar s number place (TextFailsAt.not-text all u) tells = omega (arith, some-byte (decode16 s) (drop 2 s) u)
-text-within maxSize sizeSoFar s number place TextFailsAt.not-whole tells = absurd (omega arith)
+text-within maxSize sizeSoFar s number place (TextFailsAt.cut-prefix l) tells = absurd (omega arith)
+text-within maxSize sizeSoFar s number place (TextFailsAt.cut-text there l) tells = absurd (omega arith)

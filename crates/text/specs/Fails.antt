@@ -17,8 +17,9 @@ pub data TextFailsAt (maxSize sizeSoFar : ℕ) (s : List ℕ) : (number place : 
   long-text : prefixSize ≤ length s → maxSize < sizeSoFar + (prefixSize + decode16 s) → TextFailsAt maxSize sizeSoFar s tooLong 0
   -- "a text's bytes for 9": they are behind their prefix, all of them are there, and they are not UTF-8
   not-text : prefixSize + decode16 s ≤ length s → isUtf8 (take (decode16 s) (drop prefixSize s)) ≡ false → TextFailsAt maxSize sizeSoFar s notUtf8 prefixSize
-  -- no place is told with 1
-  not-whole : {place : ℕ} → TextFailsAt maxSize sizeSoFar s incomplete place
+  -- "a field that is not there ends the reading with 1": the prefix, and the text's bytes behind it
+  cut-prefix : length s < prefixSize → TextFailsAt maxSize sizeSoFar s incomplete 0
+  cut-text : prefixSize ≤ length s → length s < prefixSize + decode16 s → TextFailsAt maxSize sizeSoFar s incomplete prefixSize
 
 abbrev pub TextFails : Type 0
 TextFails =

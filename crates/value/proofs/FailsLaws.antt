@@ -19,7 +19,7 @@ use Rattle.field.proofs.ChoiceLaws.{by-test}
 use Rattle.field.proofs.PlaceLaws.{Refuses, refuses-with, refused-with, refuses-map}
 use Rattle.text.specs.Text.{parseText}
 use Rattle.text.proofs.FailsLaws.{text-refuses, text-number, text-within}
-use Rattle.value.specs.Value.{boolean, string, arrayOf, knownType, maxValueSize, countFits, parseBoolean, parseDouble, parseElement, elements, parseArray, parseValue, parseLone}
+use Rattle.value.specs.Value.{boolean, double, string, arrayOf, knownType, maxValueSize, countFits, parseBoolean, parseDouble, parseElement, elements, parseArray, parseValue, parseLone}
 use Rattle.value.specs.Fails.{ElementsLeft, ElementAt, ValueFailsAt, ValueFails, LoneFailsAt, LoneFails}
 use Rattle.value.proofs.ValueLaws.{known-array, known-small, value-fits}
 
@@ -36,7 +36,7 @@ module _ (t : ℕ) (s : List ℕ) where
       by-test P _ _ _ (λ there. by-test P _ _ _ (λ _. Refuses.taken)
       (λ b. refuses-with (From start) 8 0
       (rw here (ValueFailsAt.not-boolean e (some-byte (leb-true _ _ there)) (rw (getD-drop start s 0 0, here) at (leb-false (getD (drop start s) 0 0) 1 b))))))
-      (λ _. refuses-with (From start) 1 0 ValueFailsAt.not-whole)
+      (λ cut. refuses-with (From start) 1 0 (rw here (ValueFailsAt.cut-boolean e (omega (arith, length-drop start s, leb-false 1 (length (drop start s)) cut)))))
     where
       here : start + 0 ≡ start
       here = omega arith
@@ -47,9 +47,12 @@ module _ (t : ℕ) (s : List ℕ) where
       P : Parsed → Type 0
       P = Refuses (From start)
 
-  double-refuses : (start : ℕ) → Refuses (From start) (parseDouble (drop start s))
+  double-refuses : (start : ℕ) → ElementAt t s double start → Refuses (From start) (parseDouble (drop start s))
   unfolding From parseDouble
-  double-refuses start = by-test (Refuses (From start)) _ _ _ (λ _. Refuses.taken) (λ _. refuses-with (From start) 1 0 ValueFailsAt.not-whole)
+  double-refuses start e =
+      let here : start + 0 ≡ start = omega arith in
+      by-test (Refuses (From start)) _ _ _ (λ _. Refuses.taken)
+      (λ cut. refuses-with (From start) 1 0 (rw here (ValueFailsAt.cut-double e (omega (arith, length-drop start s, leb-false 8 (length (drop start s)) cut)))))
 
   string-refuses : (start : ℕ) → ElementAt t s string start → Refuses (From start) (parseText maxValueSize start (drop start s))
   unfolding From
@@ -59,7 +62,7 @@ module _ (t : ℕ) (s : List ℕ) where
   unfolding parseElement
   element-refuses element start small e =
       by-test P _ _ _ (λ b. boolean-refuses start (rw (eqb-true element 0 b) at e)) (λ b.
-      by-test P _ _ _ (λ _. double-refuses start) (λ d.
+      by-test P _ _ _ (λ d. double-refuses start (rw (eqb-true element 1 d) at e)) (λ d.
       let is : element ≡ string = omega (arith, eqb-false element 0 b, eqb-false element 1 d) in
       string-refuses start (rw is at e)))
     where
@@ -88,7 +91,7 @@ module _ (t : ℕ) (s : List ℕ) where
   array-refuses element small is =
       by-test P _ _ _ (λ there. by-test P _ _ _ (λ _. elements-refuse element small is (getD s 0 0) 1 (ElementsLeft.behind-count (leb-true _ _ there)))
       (λ f. refuses-with (ValueFailsAt t s) 10 0 (many (leb-true _ _ there) f)))
-      (λ _. refuses-with (ValueFailsAt t s) 1 0 ValueFailsAt.not-whole)
+      (λ cut. refuses-with (ValueFailsAt t s) 1 0 (ValueFailsAt.cut-count element is (leb-false _ _ cut)))
     where
       P : Parsed → Type 0
       P = Refuses (ValueFailsAt t s)
@@ -146,7 +149,9 @@ value-of-known t s number place known (ValueFailsAt.not-boolean at there b) e = 
 value-of-known t s number place known (ValueFailsAt.text at f) e = text-number _ _ _ _ _ f e
 value-of-known t s number place known (ValueFailsAt.many-booleans at there l) e = omega arith
 value-of-known t s number place known (ValueFailsAt.many-doubles at there l) e = omega arith
-value-of-known t s number place known ValueFailsAt.not-whole e = omega arith
+value-of-known t s number place known (ValueFailsAt.cut-boolean at l) e = omega arith
+value-of-known t s number place known (ValueFailsAt.cut-double at l) e = omega arith
+value-of-known t s number place known (ValueFailsAt.cut-count element is l) e = omega arith
 
 -- the place is that of a byte
 pub value-within : (t : ℕ) (s : List ℕ) (number place : ℕ) → knownType t ≡ true → ValueFailsAt t s number place → TellsPlace number → place < length s
@@ -156,4 +161,6 @@ value-within t s number place known (ValueFailsAt.text {start = start} {place = 
     omega (arith, text-within maxValueSize start (drop start s) number inner f tells, length-drop start s)
 value-within t s number place known (ValueFailsAt.many-booleans e there l) tells = there
 value-within t s number place known (ValueFailsAt.many-doubles e there l) tells = there
-value-within t s number place known ValueFailsAt.not-whole tells = absurd (omega arith)
+value-within t s number place known (ValueFailsAt.cut-boolean at l) tells = absurd (omega arith)
+value-within t s number place known (ValueFailsAt.cut-double at l) tells = absurd (omega arith)
+value-within t s number place known (ValueFailsAt.cut-count element is l) tells = absurd (omega arith)

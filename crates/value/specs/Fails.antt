@@ -8,7 +8,7 @@ use Rattle.field.specs.Answer.{incomplete, unknownType, badBoolean, tooLong}
 use Rattle.field.specs.declared.Fault.{Fault}
 use Rattle.field.specs.declared.Parsed.the-variants.{Refused, Taken}
 use Rattle.text.specs.Fails.{TextFailsAt}
-use Rattle.value.specs.Value.{boolean, string, arrayOf, doubleArray, knownType, maxValueSize, booleanSize, trueByte, doubleSize, countSize, parseElement, parseValue, parseLone}
+use Rattle.value.specs.Value.{boolean, double, string, arrayOf, doubleArray, knownType, maxValueSize, booleanSize, trueByte, doubleSize, countSize, parseElement, parseValue, parseLone}
 
 -- "count (1) of elements and the elements in order": so many are left at a place of an array, and all before it are whole
 pub data ElementsLeft (element : ℕ) (s : List ℕ) : (left place : ℕ) → Type 0 where
@@ -32,8 +32,10 @@ pub data ValueFailsAt (t : ℕ) (s : List ℕ) : (number place : ℕ) → Type 0
   -- a "count .. for 10": it is there, and says too much (of Booleans no byte does)
   many-booleans : t ≡ arrayOf + boolean → countSize ≤ length s → maxValueSize < countSize + booleanSize * getD s 0 0 → ValueFailsAt t s tooLong 0
   many-doubles : t ≡ doubleArray → countSize ≤ length s → maxValueSize < countSize + doubleSize * getD s 0 0 → ValueFailsAt t s tooLong 0
-  -- no place is told with 1
-  not-whole : {place : ℕ} → ValueFailsAt t s incomplete place
+  -- "a field that is not there ends the reading with 1"; of a text it is said with `text`
+  cut-boolean : {place : ℕ} → ElementAt t s boolean place → length s < place + booleanSize → ValueFailsAt t s incomplete place
+  cut-double : {place : ℕ} → ElementAt t s double place → length s < place + doubleSize → ValueFailsAt t s incomplete place
+  cut-count : (element : ℕ) → t ≡ arrayOf + element → length s < countSize → ValueFailsAt t s incomplete 0
 
 abbrev pub ValueFails : Type 0
 ValueFails = (t : ℕ) (s : List ℕ) (fault : Fault) → parseValue t s ≡ Refused fault → ValueFailsAt t s (fault .number) (fault .place)

@@ -15,8 +15,8 @@ use Rattle.protocol.specs.Lent.{serverMemory}
 use Rattle.judge.specs.declared.Decision.{Decision}
 use Rattle.judge.specs.Decision.{verdictOf, Performable}
 use Rattle.judge.proofs.DecisionLaws.{known-performable}
-use Rattle.line_record.specs.Effect.{effectOf, longestOutput}
-use Rattle.line_record.proofs.RoomLaws.{withRoom}
+use Rattle.protocol.specs.Effect.{effectOf, longestOutput}
+use Rattle.protocol.proofs.RoomLaws.{withRoom}
 use Rattle.effect.proofs.EffectLaws.{decided-effect}
 use borrow.Author.Needs.{needs}
 use Rattle.effect.proofs.apply.Statement.{statement}

@@ -10,8 +10,8 @@ use Rattle.protocol.specs.Step.{callStep}
 use Rattle.judge.specs.declared.CreateDecision.{CreateDecision}
 use Rattle.judge.specs.Decision.{createVerdict}
 use Rattle.judge.proofs.DecisionLaws.{known-creatable}
-use Rattle.line_record.specs.Effect.{effectOf, withOutput}
-use Rattle.line_record.proofs.RoomLaws.{withRoom}
+use Rattle.protocol.specs.Effect.{effectOf, withOutput}
+use Rattle.protocol.proofs.RoomLaws.{withRoom}
 use Rattle.effect.proofs.EffectLaws.{verdict-effect}
 use borrow.Author.Needs.{needs}
 use Rattle.effect.proofs.create.Statement.{statement}

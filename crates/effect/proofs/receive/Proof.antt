@@ -5,7 +5,7 @@ use Rattle.protocol.specs.Judge.{clientMessage}
 use Rattle.protocol.specs.Step.{ServerMemory}
 use Rattle.protocol.specs.Lent.{serverMemory}
 use Rattle.protocol.proofs.SoundnessLaws.{step-is}
-use Rattle.line_record.specs.Effect.{withOutput}
+use Rattle.protocol.specs.Effect.{withOutput}
 use borrow.Author.Needs.{needs}
 use Rattle.effect.proofs.receive.Statement.{statement}
 use Rattle.effect.proofs.receive.Tie as tie

@@ -13,8 +13,8 @@ use Rattle.protocol.specs.Step.{callStep}
 use Rattle.judge.specs.declared.WriteDecision.{WriteDecision}
 use Rattle.judge.specs.Decision.{writeVerdict}
 use Rattle.judge.proofs.DecisionLaws.{known-writable}
-use Rattle.line_record.specs.Effect.{effectOf, withOutput}
-use Rattle.line_record.proofs.RoomLaws.{withRoom}
+use Rattle.protocol.specs.Effect.{effectOf, withOutput}
+use Rattle.protocol.proofs.RoomLaws.{withRoom}
 use Rattle.effect.proofs.EffectLaws.{verdict-effect}
 use borrow.Author.Needs.{needs}
 use Rattle.effect.proofs.write.Statement.{statement}

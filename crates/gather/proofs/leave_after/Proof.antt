@@ -3,7 +3,7 @@ use mathlib.Core.Path.{ap}
 use borrow.Author.Tests.{lt-ltb, le-ltb}
 use Rattle.field.specs.Choice.{pick}
 use Rattle.protocol.specs.Run.{memoryAfterRun}
-use Rattle.line_record.specs.Effect.{Effect}
+use Rattle.protocol.specs.Effect.{Effect}
 use Rattle.line_record.specs.Held.{leaving}
 use borrow.Author.Needs.{needs}
 use Rattle.gather.proofs.leave_after.Statement.{statement}

@@ -10,7 +10,7 @@ use Rattle.answer.specs.Answers.{goesOn}
 use Rattle.table.specs.Table.{maxEntries}
 use Rattle.protocol.specs.Step.{ServerMemory}
 use Rattle.protocol.specs.Lent.{serverMemory}
-use Rattle.line_record.specs.Effect.{Effect}
+use Rattle.protocol.specs.Effect.{Effect}
 use Rattle.line_record.specs.Held.{messageEffect}
 use Rattle.effect.specs.Lent.{effected}
 use Rattle.gather.proofs.SettleLaws.{Reached, reached-start, kept-spent, sound-after, marks-after, kept-cut, kept-refused, kept-closed, takes, reached-on}

@@ -8,7 +8,7 @@ use Rattle.table.specs.Table.{TableMemory, maxEntries}
 use Rattle.soundness.specs.Sound.{soundTable}
 use Rattle.protocol.specs.Judge.{leave}
 use Rattle.protocol.specs.Step.{ServerMemory, callStep}
-use Rattle.line_record.specs.Effect.{Effect, withoutOutput}
+use Rattle.protocol.specs.Effect.{Effect, withoutOutput}
 use Rattle.slots.proofs.StepLaws.{left-within}
 use borrow.Author.Needs.{needs}
 use Rattle.slots.proofs.connection_left.Statement.{statement}

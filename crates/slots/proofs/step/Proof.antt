@@ -3,7 +3,7 @@ use Prim.Native.Nat.{_<_}
 use mathlib.Core.Path.{ap}
 use Rattle.protocol.specs.Step.{ServerMemory}
 use Rattle.protocol.specs.Lent.{serverMemory}
-use Rattle.line_record.specs.Effect.{Effect}
+use Rattle.protocol.specs.Effect.{Effect}
 use Rattle.line_record.specs.Record.{recordedConnections}
 use Rattle.slots.proofs.StepLaws.{opened-step, left-step, opens-is, leaves-is, came-is}
 use borrow.Author.Needs.{needs}

@@ -18,12 +18,12 @@ use Rattle.soundness.specs.Sound.{soundTable, closed, open′, greeted}
 use Rattle.soundness.proofs.ReadableLaws.{sound-count, sound-readable}
 use Rattle.hello.specs.Hello.{helloAnswer, longestHello}
 use Rattle.hello.proofs.HelloLaws.{length-hello-below, length-below-most}
 use Rattle.protocol.specs.Judge.{Call, Verdict, refuse, ignore, readDone, openMark, closeMark, acceptHello, unsupportedRevision, storeNew, storeUpdate, protocolRevision, judge}
 use Rattle.protocol.specs.Step.{ServerMemory, withMark, withTable, execute, callStep}
 use Rattle.protocol.specs.Kept.{SoundMemory}
 use Rattle.protocol.proofs.JudgeLaws.{VerdictIs, verdict-is}
 use Rattle.protocol.proofs.SoundnessLaws.{step-is}
-use Rattle.line_record.specs.Effect.{Effect, effectOf, longestOutput, withOutput, SameEffect}
+use Rattle.protocol.specs.Effect.{Effect, effectOf, longestOutput, withOutput, SameEffect}
 
 -- ---- what is sent at most
 

@@ -1,0 +1,5 @@
+pub mod FirstLaws
+pub mod FieldLaws
+pub mod ExplainLaws
+pub mod AnsweredLaws
+pub mod HoldsLaws

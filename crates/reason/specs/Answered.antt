@@ -1,0 +1,35 @@
+-- "the real call, with output for the longest hello answer, gives the number that goes with the reason". Proved in proofs/AnsweredLaws.antt.
+use Prim.Native.Nat.{ℕ, _≤_}
+use mathlib.Core.List.{List}
+use mathlib.Core.Path.{_≡_}
+use lib.ListN.{length}
+use Rattle.field.specs.Place.{reportedPlace}
+use Rattle.hello.specs.Hello.{longestHello}
+use Rattle.protocol.specs.Judge.{clientMessage}
+use Rattle.protocol.specs.Step.{ServerMemory, callStep}
+use Rattle.protocol.specs.Place.{callPlace}
+use Rattle.protocol.specs.Taken.{messageCall}
+use Rattle.reason.specs.Reason.{numberOf}
+use Rattle.reason.specs.Why.{why}
+use Rattle.reason.specs.declared.Reason.{Reason}
+use Rattle.reason.specs.declared.Reason.the-variants.{Refused, KeepAlive, NameHeld, Equal, Older, Undefined, Applied, Done}
+
+-- for every limit from 1 on, memory, connection, message and output that has room
+abbrev pub CallGives : Type 0
+CallGives =
+    (limit : ℕ) → 1 ≤ limit → (mem : ServerMemory) (c : ℕ) (m out : List ℕ) → longestHello limit ≤ length out
+    → callStep limit mem (messageCall c m out) .number ≡ numberOf (why limit mem c m)
+
+-- the place that the call's answer tells
+abbrev pub placeTold : Reason → ℕ
+placeTold (Refused fault) = reportedPlace fault
+placeTold KeepAlive = 0
+placeTold (NameHeld id) = 0
+placeTold Equal = 0
+placeTold (Older distance) = 0
+placeTold Undefined = 0
+placeTold (Applied distance) = 0
+placeTold Done = 0
+
+abbrev pub CallTellsPlace : Type 0
+CallTellsPlace = (limit : ℕ) (mem : ServerMemory) (c : ℕ) (m : List ℕ) → callPlace limit mem (clientMessage c m) ≡ placeTold (why limit mem c m)
