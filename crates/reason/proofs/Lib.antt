@@ -3,3 +3,4 @@ pub mod FieldLaws
 pub mod ExplainLaws
 pub mod AnsweredLaws
 pub mod HoldsLaws
+pub mod CutLaws

@@ -5,3 +5,4 @@ pub mod Explain
 pub mod Holds
 pub mod First
 pub mod Answered
+pub mod Cut
