@@ -91,6 +91,18 @@ enum { NT2_PLANT = 16 };
 /* How a delivery ended. */
 enum { NT2_ENDED_REFUSED = 0, NT2_ENDED_SPENT = 1, NT2_ENDED_MAX_REACHED = 2 };
 
+/* What a reason's `reason` says. */
+enum {
+    NT2_WHY_REFUSED = 0,    /* refused; number and place tell of it */
+    NT2_WHY_KEEP_ALIVE = 1, /* ignored: a keep alive */
+    NT2_WHY_NAME_HELD = 2,  /* ignored: the entry with this id has the assignment's name */
+    NT2_WHY_EQUAL = 3,      /* ignored: the update's number is the stored one */
+    NT2_WHY_OLDER = 4,      /* ignored: the update's number is older, by the distance */
+    NT2_WHY_UNDEFINED = 5,  /* ignored: the numbers are 32,768 apart, so neither is greater */
+    NT2_WHY_APPLIED = 6,    /* done: the update's number is greater, by the distance */
+    NT2_WHY_DONE = 7        /* done: a hello of any revision, or a new assignment */
+};
+
 /* One entry head. */
 typedef struct {
     uint16_t name_length;
@@ -136,6 +148,28 @@ typedef struct {
     size_t written;
     size_t place;
 } nt2_delivered;
+
+/* Which check decides a message, and the number that nt2_receive answers with.
+ *   id        with NT2_WHY_NAME_HELD the ID of the entry that has the name
+ *   distance  with NT2_WHY_OLDER stored minus received number, with NT2_WHY_APPLIED received minus
+ *             stored, modulo 65,536: 1 to 32,767; with NT2_WHY_UNDEFINED 32,768
+ *   place     with NT2_WHY_REFUSED that of the first byte of the field that failed, counted from 0
+ *             at the start of the message: with 7 to 10 as in an answer, and also
+ *               NT2_INCOMPLETE     the first field that is not wholly there; a text's length and its
+ *                                  bytes are two fields, each element of an array is one
+ *               NT2_KIND           the kind, at 0
+ *               NT2_ASSIGNMENT_ID  the ID
+ *               NT2_UNKNOWN_ID     the ID
+ *             It is 0 with NT2_UNSOUND, NT2_NO_SUCH_CONNECTION, NT2_STATE and NT2_FULL.
+ * Where nothing is said they are 0.
+ */
+typedef struct {
+    uint8_t reason;
+    uint8_t number;
+    uint16_t id;
+    uint16_t distance;
+    size_t place;
+} nt2_reason;
 
 /* What came of a line record: 0 or a refusal, and the records that were done before the end or the
  * refusal. */
@@ -211,6 +245,17 @@ nt2_delivered nt2_deliver(nt2_head *heads, size_t heads_length, uint8_t *bytes,
                           size_t bytes_length, uint16_t *count, uint8_t *marks,
                           size_t marks_length, size_t connection, const uint8_t *input,
                           size_t input_length, uint8_t *out, size_t out_length);
+
+/* Says why nt2_receive would take, ignore or refuse the first message of a client's bytes: names the
+ * check that decides it, and the number. Changes nothing.
+ *
+ * The number is that of nt2_receive for this table, connection and message, lent
+ * NT2_LONGEST_HELLO_ANSWER bytes of output, so NT2_ROOM is never the reason. No check before the one
+ * that is named fails. Bytes behind the message are not looked at.
+ */
+nt2_reason nt2_why(nt2_head *heads, size_t heads_length, uint8_t *bytes, size_t bytes_length,
+                   uint16_t *count, uint8_t *marks, size_t marks_length, size_t connection,
+                   const uint8_t *message, size_t message_length);
 
 /* Runs a line record again: makes a fresh start, so that any contents will do, and then the calls that
  * the records stand for. Nothing is sent.

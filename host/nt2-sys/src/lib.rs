@@ -97,6 +97,42 @@ pub fn headed(mut written: &[u8]) -> impl Iterator<Item = (u16, &[u8])> {
     })
 }
 
+/// `nt2_reason`: which check decides a message, and the number that `nt2_receive` answers with.
+///
+/// `id` is that of the entry that has an assignment's name, `distance` that of an update's number from
+/// the stored one. With a refusal `place` is that of the first byte of the field that failed, counted
+/// from the start of the message: with the numbers 7 to 10 as in [`Answer`], with 1 that of the first
+/// field not wholly there, with 4 that of the kind, with 5 and 6 that of the ID.
+#[repr(C)]
+#[derive(Clone, Copy, Debug, Default, PartialEq, Eq)]
+pub struct Reason {
+    pub reason: u8,
+    pub number: u8,
+    pub id: u16,
+    pub distance: u16,
+    pub place: usize,
+}
+
+/// What `reason` says.
+impl Reason {
+    /// Refused: `number` and `place` tell of it.
+    pub const REFUSED: u8 = 0;
+    /// Ignored: a keep alive.
+    pub const KEEP_ALIVE: u8 = 1;
+    /// Ignored: the entry `id` has the assignment's name.
+    pub const NAME_HELD: u8 = 2;
+    /// Ignored: the update's number is the stored one.
+    pub const EQUAL: u8 = 3;
+    /// Ignored: the update's number is older, by `distance`, 1 to 32,767.
+    pub const OLDER: u8 = 4;
+    /// Ignored: the numbers are 32,768 apart, which is `distance`, so neither is greater.
+    pub const UNDEFINED: u8 = 5;
+    /// Done: the update's number is greater, by `distance`, 1 to 32,767.
+    pub const APPLIED: u8 = 6;
+    /// Done: a hello of any revision, or a new assignment.
+    pub const DONE: u8 = 7;
+}
+
 /// `nt2_replayed`: what came of a line record, and how many of its records were done.
 #[repr(C)]
 #[derive(Clone, Copy, Debug, Default, PartialEq, Eq)]
@@ -155,7 +191,7 @@ pub use functions::*;
 
 #[cfg(feature = "link")]
 mod functions {
-    use crate::{Answer, Copied, Delivered, Fields, Head, Replayed, Scalar};
+    use crate::{Answer, Copied, Delivered, Fields, Head, Reason, Replayed, Scalar};
 
     unsafe extern "C" {
         pub fn nt2_fresh(
@@ -219,6 +255,19 @@ mod functions {
             out: *mut u8,
             out_length: usize,
         ) -> Delivered;
+
+        pub fn nt2_why(
+            heads: *mut Head,
+            heads_length: usize,
+            bytes: *mut u8,
+            bytes_length: usize,
+            count: *mut u16,
+            marks: *mut u8,
+            marks_length: usize,
+            connection: usize,
+            message: *const u8,
+            message_length: usize,
+        ) -> Reason;
 
         pub fn nt2_replay(
             heads: *mut Head,
@@ -315,6 +364,7 @@ const _: () = {
     assert!(size_of::<Head>() == 8);
     assert!(size_of::<Answer>() == 32);
     assert!(size_of::<Delivered>() == 40);
+    assert!(size_of::<Reason>() == 16);
     assert!(size_of::<Replayed>() == 16);
     assert!(size_of::<Scalar>() == 16);
     assert!(size_of::<Copied>() == 24);

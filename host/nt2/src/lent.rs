@@ -1,13 +1,14 @@
 //! The calls over lent memory of any size, which judge it themselves.
 
 use nt2_sys::{
-    Answer, Copied, Delivered, Fields, Head, LentTable, Replayed, Scalar, nt2_copy_fresh,
+    Answer, Copied, Delivered, Fields, Head, LentTable, Reason, Replayed, Scalar, nt2_copy_fresh,
     nt2_copy_receive, nt2_create, nt2_decode, nt2_deliver, nt2_encode, nt2_fresh, nt2_leave,
-    nt2_open, nt2_read, nt2_receive, nt2_replay, nt2_write,
+    nt2_open, nt2_read, nt2_receive, nt2_replay, nt2_why, nt2_write,
 };
 
 // SAFETY of all calls: each pointer stands beside the length of the slice that it comes from, no
-// two of the slices overlap, and a call stays within them and keeps none of them.
+// two of the slices overlap, and a call stays within them and keeps none of them. What is lent as
+// shared to `nt2_why` and `nt2_read` is only read by them.
 
 /// The count is 0 and all connections are closed.
 pub fn fresh(table: LentTable<'_>, marks: &mut [u8]) -> Answer {
@@ -104,6 +105,36 @@ pub fn deliver(
             input.len(),
             out.as_mut_ptr(),
             out.len(),
+        )
+    }
+}
+
+/// Says why a message of a client would be taken, ignored or refused. Changes nothing.
+pub fn why(table: LentTable<'_>, marks: &mut [u8], connection: usize, message: &[u8]) -> Reason {
+    why_by_reading(table.heads, table.bytes, table.count, marks, connection, message)
+}
+
+/// [`why`] with memory that is not lent for writing: the call only reads it.
+pub fn why_by_reading(
+    heads: &[Head],
+    bytes: &[u8],
+    count: &u16,
+    marks: &[u8],
+    connection: usize,
+    message: &[u8],
+) -> Reason {
+    unsafe {
+        nt2_why(
+            heads.as_ptr().cast_mut(),
+            heads.len(),
+            bytes.as_ptr().cast_mut(),
+            bytes.len(),
+            std::ptr::from_ref(count).cast_mut(),
+            marks.as_ptr().cast_mut(),
+            marks.len(),
+            connection,
+            message.as_ptr(),
+            message.len(),
         )
     }
 }
