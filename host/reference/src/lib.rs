@@ -12,12 +12,14 @@ mod output;
 mod replay;
 mod server;
 mod table;
+mod why;
 mod wire;
 
 use nt2_sys::{Answer, Copied, Fields, LentTable, Scalar};
 pub use replay::replay;
 pub use server::{create, deliver, fresh, leave, open, receive, write};
 use table::Table;
+pub use why::why;
 use wire::{
     ASSIGNMENT, Assignment, Fault, HELLO, HELLO_COMPLETE, Judged, KEEP_ALIVE, Reader, Refusal,
     Type, UNSUPPORTED, UPDATE, check_name, check_value, write_revision, write_update,

@@ -11,13 +11,13 @@ use crate::{IGNORED, answer};
 use nt2_sys::{Answer, CONNECTIONS, DELIVERY_MESSAGES, Delivered, HEADING, LentTable};
 
 const CLOSED: u8 = 0;
-const OPEN: u8 = 1;
-const GREETED: u8 = 2;
+pub const OPEN: u8 = 1;
+pub const GREETED: u8 = 2;
 
 /// The sequence number of a new entry.
 const START: u16 = 1;
 /// Half the range of sequence numbers.
-const HALF: u16 = 32_768;
+pub const HALF: u16 = 32_768;
 
 /// Whether a received number passes the stored one.
 fn passes(stored: u16, received: u16) -> bool {
@@ -117,7 +117,8 @@ impl<'a> Server<'a> {
         Ok(Server { table, marks })
     }
 
-    fn sound(table: LentTable<'a>, marks: &'a mut [u8]) -> Judged<Self> {
+    /// The server on sound memory.
+    pub fn sound(table: LentTable<'a>, marks: &'a mut [u8]) -> Judged<Self> {
         let marks: &mut [u8; CONNECTIONS] = marks.first_chunk_mut().ok_or(Refusal::Unsound)?;
         if marks.iter().any(|&mark| mark > GREETED) {
             return Err(Refusal::Unsound.into());
@@ -157,7 +158,7 @@ impl<'a> Server<'a> {
     }
 
     /// The mark of a connection that is not closed.
-    fn mark(&self, connection: usize) -> Judged<u8> {
+    pub fn mark(&self, connection: usize) -> Judged<u8> {
         match *self.marks.get(connection).ok_or(Refusal::NoSuchConnection)? {
             CLOSED => Err(Refusal::State.into()),
             mark => Ok(mark),
