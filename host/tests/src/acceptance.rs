@@ -6,16 +6,17 @@ use crate::implementation::Implementation;
 use crate::json::Json;
 use crate::line_record::ByHand;
 use crate::memory::{Guarded, Memory};
+use crate::reason::real_call_differs;
 use nt2_sys::{
-    Answer, CONNECTIONS, Copied, Delivered, ENTRIES, Fields, Head, LONGEST_HELLO_ANSWER, Replayed,
-    TABLE_BYTES,
+    Answer, CONNECTIONS, Copied, Delivered, ENTRIES, Fields, Head, LONGEST_HELLO_ANSWER, Reason,
+    Replayed, TABLE_BYTES,
 };
 use std::fmt::Write;
 use std::fs;
 use std::path::{Path, PathBuf};
 
 /// The files of cases, with the number of cases in each.
-pub const FILES: [(&str, usize); 9] = [
+pub const FILES: [(&str, usize); 10] = [
     ("client.json", 2527),
     ("copy.json", 755),
     ("deliver.json", 111),
@@ -24,6 +25,7 @@ pub const FILES: [(&str, usize); 9] = [
     ("replay.json", 86),
     ("runs.json", 130),
     ("unsound.json", 1321),
+    ("why.json", 282),
     ("writer.json", 1960),
 ];
 
@@ -183,6 +185,7 @@ fn check_call<I: Implementation>(memories: &[Memory], case: &Json, name: &str) -
         Outcome::Replayed(replayed) => {
             check_replayed::<I>(case, &before, replayed)?;
         }
+        Outcome::Reason(reason) => check_reason::<I>(case, &call, &before, reason)?,
         _ => check_outcome(case, &call, outcome)?,
     }
     check_output(case, outcome.written(), &out)?;
@@ -206,6 +209,7 @@ fn case_call(case: &Json, name: &str) -> Checked<Call> {
         "msg" => Call::Receive { connection: number(case, "n")?, message: hex(case, "i")? },
         "deliver" => Call::Deliver { connection: number(case, "n")?, input: hex(case, "i")? },
         "replay" => Call::Replay { record: hex(case, "i")? },
+        "why" => Call::Why { connection: number(case, "n")?, message: hex(case, "i")? },
         "create" => Call::Create {
             name: hex(case, "name")?,
             type_code: number(case, "t")?,
@@ -257,7 +261,10 @@ fn check_outcome(case: &Json, call: &Call, outcome: Outcome) -> Checked {
             (fields.number, fields.taken, fields.place) == (number, taken, place)
                 && fields_match(case, fields, &bytes.0)?
         }
-        (Outcome::Fields(_) | Outcome::Delivered(_) | Outcome::Replayed(_), _) => false,
+        (
+            Outcome::Fields(_) | Outcome::Delivered(_) | Outcome::Replayed(_) | Outcome::Reason(_),
+            _,
+        ) => false,
     };
     if as_expected {
         Ok(())
@@ -311,6 +318,51 @@ fn check_replayed<I: Implementation>(case: &Json, before: &Memory, replayed: Rep
         Some(difference) => Err(format!("memory, by hand: {difference}")),
         None => Ok(()),
     }
+}
+
+/// A reason with a case's name of it and what it tells, and the call that it is about.
+fn check_reason<I: Implementation>(
+    case: &Json,
+    call: &Call,
+    before: &Memory,
+    reason: Reason,
+) -> Checked {
+    let expected = expected_reason(member(case, "x")?.list()?)?;
+    if reason != expected {
+        return Err(format!("{call:?} answers {reason:?}, not {expected:?}"));
+    }
+    let (connection, message) = (number(case, "n")?, bytes(case, "i")?);
+    match real_call_differs::<I>(&mut before.clone(), connection, &message, reason) {
+        Some(answer) => Err(format!("{call:?} answers {reason:?}, the call itself {answer:?}")),
+        None => Ok(()),
+    }
+}
+
+fn expected_reason(told: &[Json]) -> Checked<Reason> {
+    let (name, fields) = told.split_first().ok_or("a reason without a name")?;
+    let mut expected = Reason::default();
+    (expected.reason, expected.number) = match name.text()? {
+        "refused" => (Reason::REFUSED, 0),
+        "keep alive" => (Reason::KEEP_ALIVE, 16),
+        "duplicate" => (Reason::NAME_HELD, 16),
+        "equal" => (Reason::EQUAL, 16),
+        "older" => (Reason::OLDER, 16),
+        "undefined" => (Reason::UNDEFINED, 16),
+        "applied" => (Reason::APPLIED, 0),
+        "done" => (Reason::DONE, 0),
+        name => return Err(format!("reason {name:?}")),
+    };
+    match (expected.reason, fields) {
+        (Reason::REFUSED, [number, place]) => {
+            (expected.number, expected.place) = (number.number()?, place.number()?);
+        }
+        (Reason::NAME_HELD, [id]) => expected.id = id.number()?,
+        (Reason::OLDER | Reason::APPLIED, [distance]) => expected.distance = distance.number()?,
+        (Reason::UNDEFINED, []) => expected.distance = 32_768,
+        (Reason::KEEP_ALIVE | Reason::EQUAL | Reason::DONE, []) => {}
+        _ => return Err(format!("reason {:?} with other fields", name.text()?)),
+    }
+    Ok(expected)
 }
 
 fn expected_scalar(case: &Json, number: u8) -> Checked<Outcome> {

@@ -2,7 +2,8 @@
 
 use crate::implementation::Implementation;
 use crate::memory::{Guarded, Memory};
-use nt2_sys::{Answer, Copied, Delivered, Fields, Replayed, Scalar};
+use crate::reason;
+use nt2_sys::{Answer, Copied, Delivered, Fields, Reason, Replayed, Scalar};
 use std::fmt;
 use std::hint::black_box;
 use std::ops::RangeInclusive;
@@ -18,7 +19,7 @@ impl fmt::Debug for Hex {
 }
 
 /// The calls that there are.
-pub const CALLS: usize = 14;
+pub const CALLS: usize = 15;
 
 /// A call on a server's table, on a copy, or on single messages.
 #[derive(Clone, Debug)]
@@ -29,6 +30,7 @@ pub enum Call {
     Receive { connection: usize, message: Hex },
     Deliver { connection: usize, input: Hex },
     Replay { record: Hex },
+    Why { connection: usize, message: Hex },
     Create { name: Hex, type_code: u8, value: Hex },
     Write { id: u16, value: Hex },
     Read { id: u16 },
@@ -58,6 +60,7 @@ pub enum Outcome {
     Copied(Copied),
     Delivered(Delivered),
     Replayed(Replayed),
+    Reason(Reason),
 }
 
 impl Call {
@@ -68,6 +71,7 @@ impl Call {
         "receive",
         "deliver",
         "replay",
+        "why",
         "create",
         "write",
         "read",
@@ -87,14 +91,15 @@ impl Call {
             Call::Receive { .. } => 3,
             Call::Deliver { .. } => 4,
             Call::Replay { .. } => 5,
-            Call::Create { .. } => 6,
-            Call::Write { .. } => 7,
-            Call::Read { .. } => 8,
-            Call::Encode { .. } => 9,
-            Call::Decode { .. } => 10,
-            Call::CopyFresh => 11,
-            Call::CopyReceive { .. } => 12,
-            Call::CopyRead { .. } => 13,
+            Call::Why { .. } => 6,
+            Call::Create { .. } => 7,
+            Call::Write { .. } => 8,
+            Call::Read { .. } => 9,
+            Call::Encode { .. } => 10,
+            Call::Decode { .. } => 11,
+            Call::CopyFresh => 12,
+            Call::CopyReceive { .. } => 13,
+            Call::CopyRead { .. } => 14,
         }
     }
 
@@ -103,6 +108,7 @@ impl Call {
             Call::Receive { message, .. }
             | Call::Deliver { input: message, .. }
             | Call::Replay { record: message }
+            | Call::Why { message, .. }
             | Call::CopyReceive { message }
             | Call::Decode { bytes: message, .. } => (&message.0, &[], &[]),
             Call::Create { name, value, .. } | Call::Encode { name, value, .. } => {
@@ -126,6 +132,7 @@ impl Call {
         let inputs = self.inputs();
         let outcome = self.perform_with::<I>(&inputs, server, copy, out);
         // The compiler takes what is lent as shared for unchanged; it has to be read again.
+        black_box((&mut *server, &mut *copy));
         if *black_box(&inputs) == self.inputs() {
             Ok(outcome)
         } else {
@@ -155,6 +162,9 @@ impl Call {
                 Outcome::Delivered(I::deliver(table, marks, *connection, message, out))
             }
             Call::Replay { .. } => Outcome::Replayed(I::replay(table, marks, message)),
+            Call::Why { connection, .. } => {
+                Outcome::Reason(I::why(table, marks, *connection, message))
+            }
             Call::Create { type_code, .. } => {
                 Outcome::Answer(I::create(table, marks, name, *type_code, value, out))
             }
@@ -182,6 +192,7 @@ impl Outcome {
             Outcome::Copied(copied) => copied.number,
             Outcome::Delivered(delivered) => delivered.number,
             Outcome::Replayed(replayed) => replayed.number,
+            Outcome::Reason(reason) => reason.number,
         }
     }
 
@@ -200,6 +211,7 @@ impl Outcome {
         match self {
             Outcome::Delivered(delivered) => delivered.written > 0,
             Outcome::Replayed(replayed) => replayed.number != 14,
+            Outcome::Reason(_) => false,
             _ => self.number() == 0,
         }
     }
@@ -212,17 +224,26 @@ impl Outcome {
             Outcome::Fields(fields) => fields.place,
             Outcome::Copied(copied) => copied.place,
             Outcome::Delivered(delivered) => delivered.place,
+            Outcome::Reason(reason) => reason.place,
         }
+    }
+
+    /// Whether the number can have a place above 0. A reason tells that of a field not there, or of an
+    /// ID, too.
+    pub fn is_placed(&self) -> bool {
+        let number = self.number();
+        let told = matches!(self, Outcome::Reason(_)) && matches!(number, 1 | 5 | 6);
+        told || PLACED.contains(&number)
     }
 
     /// Whether there is no place above 0, or the number can have one.
     pub fn keeps_place(&self) -> bool {
-        self.place() == 0 || PLACED.contains(&self.number())
+        self.place() == 0 || self.is_placed()
     }
 
     /// Whether a refusal, or a message ignored, says that nothing came of it, whether a delivery's
-    /// number belongs to its end and a line record has one of its numbers, and whether only a refusal
-    /// that can have a place has one.
+    /// number belongs to its end, a line record has one of its numbers and a reason the fields that it
+    /// tells, and whether only a refusal that can have a place has one.
     pub fn keeps_form(&self) -> bool {
         let (number, place) = (self.number(), self.place());
         let refused = (1..=14).contains(&number);
@@ -233,6 +254,7 @@ impl Outcome {
                 _ => false,
             },
             Outcome::Replayed(r) => matches!(number, 0 | 1 | 4) || number == 14 && r.records == 0,
+            Outcome::Reason(r) => reason::keeps_form(r),
             _ if number == 0 => true,
             Outcome::Answer(a) => a.sent == 0 && a.recipients == 0 && (!refused || a.taken == 0),
             Outcome::Scalar(s) => s == Scalar { number, ..Scalar::default() },
@@ -253,6 +275,7 @@ impl PartialEq for Outcome {
             (Outcome::Copied(left), Outcome::Copied(right)) => left == right,
             (Outcome::Delivered(left), Outcome::Delivered(right)) => left == right,
             (Outcome::Replayed(left), Outcome::Replayed(right)) => left == right,
+            (Outcome::Reason(left), Outcome::Reason(right)) => left == right,
             (Outcome::Scalar(left), Outcome::Scalar(right)) => {
                 let same_value = left.value.to_bits() == right.value.to_bits()
                     || left.value.is_nan() && right.value.is_nan();

@@ -1,11 +1,12 @@
 //! Two implementations side by side: the same calls on the same memory, every byte compared.
 
-use crate::call::{CALLS, Call, Outcome, PLACED};
+use crate::call::{CALLS, Call, Outcome};
 use crate::delivery::{SORTS, SingleCalls};
 use crate::generate::{Generator, MOST_ROOM, Weights};
 use crate::implementation::Implementation;
 use crate::line_record::{self, ByHand};
 use crate::memory::{Guarded, Memory};
+use crate::reason::{self, Asked, real_call_differs};
 use nt2_sys::headed;
 use std::collections::BTreeSet;
 use std::marker::PhantomData;
@@ -31,8 +32,9 @@ impl Answers {
     }
 }
 
-/// By call, as in [`Call::NAMES`]. In a message no place is 0, but that of a type given for it. Of a
-/// name alone every place is 0, of a value alone that of a text is not.
+/// By call, as in [`Call::NAMES`]. In a message no place is 0, but that of a type given for it and, in a
+/// reason, that of a kind not there. Of a name alone every place is 0, of a value alone that of a text is
+/// not.
 const ANSWERS: [Answers; CALLS] = [
     Answers::without_place(&[0, 14]),
     Answers::without_place(&[0, 2, 3, 14]),
@@ -48,6 +50,11 @@ const ANSWERS: [Answers; CALLS] = [
         above_0: &[7, 8, 9, 10],
     },
     Answers::without_place(&[0, 1, 4, 14]),
+    Answers {
+        numbers: &[0, 1, 2, 3, 4, 5, 6, 7, 8, 9, 10, 11, 14, 16],
+        at_0: &[1],
+        above_0: &[1, 5, 6, 7, 8, 9, 10],
+    },
     Answers {
         numbers: &[0, 1, 7, 8, 9, 10, 11, 12, 13, 14],
         at_0: &[7, 8, 9, 10],
@@ -66,8 +73,8 @@ const ANSWERS: [Answers; CALLS] = [
     Answers::without_place(&[0, 6, 14]),
 ];
 
-/// Comparisons by call and number, the places of faults that were met with each, and the deliveries and
-/// line records of each sort.
+/// Comparisons by call and number, the places of faults that were met with each, and the deliveries,
+/// line records and reasons of each sort.
 #[derive(Clone, Debug)]
 pub struct Report {
     pub comparisons: u64,
@@ -75,6 +82,7 @@ pub struct Report {
     places: BTreeSet<(usize, usize, usize)>,
     deliveries: [(&'static str, u64); SORTS],
     line_records: [(&'static str, u64); line_record::SORTS.len()],
+    reasons: [(&'static str, u64); reason::SORTS],
 }
 
 impl Report {
@@ -85,6 +93,7 @@ impl Report {
             places: BTreeSet::new(),
             deliveries: SingleCalls::default().sorts().map(|(sort, _)| (sort, 0)),
             line_records: line_record::SORTS.map(|sort| (sort, 0)),
+            reasons: Asked::no_sorts(),
         }
     }
 
@@ -92,7 +101,7 @@ impl Report {
         let (call, number) = (call.index(), usize::from(outcome.number()));
         self.comparisons += 1;
         self.numbers[call][number] += 1;
-        if PLACED.contains(&outcome.number()) {
+        if outcome.is_placed() {
             self.places.insert((call, number, outcome.place()));
         }
     }
@@ -105,18 +114,23 @@ impl Report {
         count_sorts(&mut self.line_records, &run.sorts());
     }
 
+    fn count_reason(&mut self, asked: &Asked<'_>) {
+        count_sorts(&mut self.reasons, &asked.sorts());
+    }
+
     fn add(&mut self, other: &Report) {
         self.comparisons += other.comparisons;
         self.places.extend(&other.places);
         add_sorts(&mut self.deliveries, &other.deliveries);
         add_sorts(&mut self.line_records, &other.line_records);
+        add_sorts(&mut self.reasons, &other.reasons);
         for (row, others) in self.numbers.iter_mut().zip(&other.numbers) {
             row.iter_mut().zip(others).for_each(|(n, m)| *n += m);
         }
     }
 
     /// Answers that a call can give and that were not met: numbers, and places at 0 and above 0. Sorts
-    /// of deliveries and line records too.
+    /// of deliveries, line records and reasons too.
     pub fn missed(&self) -> Vec<String> {
         let calls = Call::NAMES.iter().zip(&ANSWERS).enumerate();
         let answers = calls.flat_map(|(call, (name, answers))| {
@@ -124,7 +138,9 @@ impl Report {
             missed.map(move |what| format!("{name} {what}"))
         });
         let deliveries = self.deliveries.iter().map(|sort| ("delivery", sort));
-        let sorts = deliveries.chain(self.line_records.iter().map(|sort| ("line record", sort)));
+        let sorts = deliveries
+            .chain(self.line_records.iter().map(|sort| ("line record", sort)))
+            .chain(self.reasons.iter().map(|sort| ("reason", sort)));
         let sorts = sorts.filter(|(_, (_, count))| *count == 0);
         answers.chain(sorts.map(|(of, (sort, _))| format!("{of} {sort}"))).collect()
     }
@@ -145,8 +161,8 @@ impl Report {
         self.places.range(key(range.start())..=key(range.end())).count()
     }
 
-    /// A line for each call: how often it answered with which number, and at how many places. One for
-    /// the sorts of deliveries, and one for those of line records.
+    /// A line for each call: how often it answered with which number, and at how many places. One each
+    /// for the sorts of deliveries, of line records and of reasons.
     pub fn lines(&self) -> Vec<String> {
         let calls = Call::NAMES.iter().zip(&self.numbers).enumerate();
         let line = |name: &str, met: Vec<String>| format!("  {name:<12} {}", met.join(", "));
@@ -158,8 +174,12 @@ impl Report {
         let sorts = |sorts: &[(&str, u64)]| {
             sorts.iter().map(|(sort, count)| format!("{sort}: {count}")).collect()
         };
-        let deliveries = line("deliveries", sorts(&self.deliveries));
-        calls.chain([deliveries, line("line records", sorts(&self.line_records))]).collect()
+        let sorts = [
+            line("deliveries", sorts(&self.deliveries)),
+            line("line records", sorts(&self.line_records)),
+            line("reasons", sorts(&self.reasons)),
+        ];
+        calls.chain(sorts).collect()
     }
 
     /// At how many places a call answered with a number, in words.
@@ -200,7 +220,7 @@ struct Series<L, R> {
     before: (Memory, Memory),
     left: Side,
     right: Side,
-    /// The right implementation's single calls, beside its deliveries.
+    /// The right implementation's single calls, beside its deliveries and reasons.
     single: Side,
     report: Report,
     implementations: PhantomData<(L, R)>,
@@ -286,14 +306,24 @@ impl<L: Implementation, R: Implementation> Series<L, R> {
         }
     }
 
+    /// Makes a call on both sides and compares. A client's message is asked about first.
+    fn compare(&mut self, call: &Call, room: usize) -> Result<(), String> {
+        if let Call::Receive { connection, message } = call {
+            let why = Call::Why { connection: *connection, message: message.clone() };
+            self.compare_one(&why, 0)?;
+        }
+        self.compare_one(call, room)
+    }
+
     /// Makes a call on both sides and compares answer, output and memory. What the call only reads is
     /// in guarded memory too.
-    fn compare(&mut self, call: &Call, room: usize) -> Result<(), String> {
+    fn compare_one(&mut self, call: &Call, room: usize) -> Result<(), String> {
         let outcome = self.left.perform::<L>(call, room)?;
         let other = self.right.perform::<R>(call, room)?;
         self.check_answers(outcome, other)
             .and_then(|()| self.check_single_calls(call, outcome))
             .and_then(|()| self.check_by_hand(call, outcome))
+            .and_then(|()| self.check_real_call(call, outcome))
             .and_then(|()| self.check_memories(outcome))
             .map_err(|what| {
                 let (left, right) = (L::NAME, R::NAME);
@@ -355,6 +385,21 @@ impl<L: Implementation, R: Implementation> Series<L, R> {
             return Err(format!("calls by hand differ: {difference}"));
         }
         self.report.count_line_record(&run);
+        Ok(())
+    }
+
+    /// A reason has the number of the call that it is about, and the place with 7 to 10.
+    fn check_real_call(&mut self, call: &Call, outcome: Outcome) -> Result<(), String> {
+        let (Call::Why { connection, message }, Outcome::Reason(reason)) = (call, outcome) else {
+            return Ok(());
+        };
+        let (before, server) = (&self.before.0, &mut self.single.server);
+        let (connection, message) = (*connection, &message.0[..]);
+        server.copy_from(before);
+        if let Some(answer) = real_call_differs::<R>(server, connection, message, reason) {
+            return Err(format!("the real call differs: {answer:?}"));
+        }
+        self.report.count_reason(&Asked { server: before, connection, message, reason });
         Ok(())
     }
 

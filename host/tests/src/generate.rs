@@ -80,9 +80,9 @@ pub struct Weights(pub [usize; CALLS]);
 
 impl Weights {
     /// All calls, for the differential test.
-    pub const ALL: Weights = Weights([2, 50, 20, 390, 40, 10, 80, 120, 30, 60, 80, 2, 110, 16]);
+    pub const ALL: Weights = Weights([2, 50, 20, 390, 40, 10, 60, 80, 120, 30, 60, 80, 2, 110, 16]);
     /// The calls of a run in demand 3, which begins with the only fresh start.
-    pub const RUN: Weights = Weights([0, 20, 2, 500, 60, 0, 40, 350, 28, 0, 0, 0, 0, 0]);
+    pub const RUN: Weights = Weights([0, 20, 2, 500, 60, 0, 0, 40, 350, 28, 0, 0, 0, 0, 0]);
 }
 
 pub struct Generator {
@@ -172,13 +172,14 @@ impl Generator {
             3 => self.receive(server),
             4 => self.deliver(server),
             5 => self.replay(),
-            6 => self.create(server),
-            7 => self.write(server),
-            8 => (Call::Read { id: self.id(server) }, 0),
-            9 => self.encode(server),
-            10 => self.decode(server),
-            11 => (Call::CopyFresh, 0),
-            12 => (Call::CopyReceive { message: Hex(self.server_message(copy)) }, 0),
+            6 => (self.why(server), 0),
+            7 => self.create(server),
+            8 => self.write(server),
+            9 => (Call::Read { id: self.id(server) }, 0),
+            10 => self.encode(server),
+            11 => self.decode(server),
+            12 => (Call::CopyFresh, 0),
+            13 => (Call::CopyReceive { message: Hex(self.server_message(copy)) }, 0),
             _ => (Call::CopyRead { id: self.id(copy) }, 0),
         }
     }
@@ -195,6 +196,17 @@ impl Generator {
         let message = self.damaged(message);
         let room = self.room(exact);
         (Call::Receive { connection, message: Hex(message) }, room)
+    }
+
+    /// A message of which many a one is cut.
+    fn why(&mut self, server: &Memory) -> Call {
+        let connection = self.sender(server);
+        let mut message = self.client_message(server, connection);
+        if self.random.percent(50) {
+            let end = self.random.below(message.len() + 1);
+            message.truncate(end);
+        }
+        Call::Why { connection, message: Hex(self.damaged(message)) }
     }
 
     /// Messages for the state in which those before them leave the table, mostly good ones.

@@ -1,6 +1,6 @@
 //! What is tested: every public call over lent memory.
 
-use nt2_sys::{Answer, Copied, Delivered, Fields, LentTable, Replayed, Scalar};
+use nt2_sys::{Answer, Copied, Delivered, Fields, LentTable, Reason, Replayed, Scalar};
 
 /// An implementation of the table server.
 pub trait Implementation {
@@ -24,6 +24,7 @@ pub trait Implementation {
         out: &mut [u8],
     ) -> Delivered;
     fn replay(table: LentTable<'_>, marks: &mut [u8], record: &[u8]) -> Replayed;
+    fn why(table: LentTable<'_>, marks: &mut [u8], connection: usize, message: &[u8]) -> Reason;
     fn create(
         table: LentTable<'_>,
         marks: &mut [u8],
@@ -102,6 +103,16 @@ macro_rules! implementation_by {
             fn replay(table: LentTable<'_>, marks: &mut [u8], record: &[u8]) -> Replayed {
                 use $module as calls;
                 calls::replay(table, marks, record)
+            }
+
+            fn why(
+                table: LentTable<'_>,
+                marks: &mut [u8],
+                connection: usize,
+                message: &[u8],
+            ) -> Reason {
+                use $module as calls;
+                calls::why(table, marks, connection, message)
             }
 
             fn create(

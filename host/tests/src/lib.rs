@@ -18,4 +18,5 @@ pub mod line_record;
 pub mod memory;
 pub mod program;
 pub mod random;
+pub mod reason;
 pub mod table_text;

@@ -1,7 +1,8 @@
 //! Wrong places of faults. The differential test has to find each in every call that can have it, the
-//! acceptance cases each in some calls. With no wrong place neither finds a difference.
+//! acceptance cases each in some calls. With no wrong place neither finds a difference. Those of reasons
+//! are among the wrong reasons in `random`.
 
-use nt2_sys::{Answer, Copied, Delivered, Fields, LentTable, Replayed, Scalar};
+use nt2_sys::{Answer, Copied, Delivered, Fields, LentTable, Reason, Replayed, Scalar};
 use nt2_tests::acceptance::{FILES, folder, run_file};
 use nt2_tests::differential::{Bounds, compare};
 use nt2_tests::implementation::{Implementation, Reference};
@@ -135,6 +136,10 @@ impl<const CALL: usize, const WRONG: usize> Implementation for Misplaced<CALL, W
         Reference::replay(table, marks, record)
     }
 
+    fn why(table: LentTable<'_>, marks: &mut [u8], connection: usize, message: &[u8]) -> Reason {
+        Reference::why(table, marks, connection, message)
+    }
+
     fn create(
         table: LentTable<'_>,
         marks: &mut [u8],
@@ -194,11 +199,12 @@ impl<const CALL: usize, const WRONG: usize> Implementation for Misplaced<CALL, W
     }
 }
 
-/// The differential test finds it, in this call, or in the single calls beside a delivery.
+/// The differential test finds it, in this call, or in the single calls beside a delivery or a reason.
 fn found<const CALL: usize, const WRONG: usize>() {
     let failure = compare::<Reference, Misplaced<CALL, WRONG>>(BOUNDS).err().unwrap_or_default();
     let differs = failure.contains(&format!("the answers differ\n  {} ", SHOWN[CALL]))
-        || CALL == RECEIVE && failure.contains("single calls differ");
+        || CALL == RECEIVE && failure.contains("single calls differ")
+        || CALL == RECEIVE && failure.contains("the real call differs");
     assert!(differs, "{}, wrong place {WRONG}: {failure}", SHOWN[CALL]);
 }
 

@@ -21,7 +21,7 @@ fn run() -> Result<(), String> {
     let threads = thread::available_parallelism().map_or(1, |n| n.get());
     let bounds = Bounds {
         seed: arguments.number("seed", clock_seed())?,
-        comparisons: arguments.number("comparisons", 1_500_000)?,
+        comparisons: arguments.number("comparisons", 2_000_000)?,
         time: Duration::from_secs(arguments.number("seconds", 110)?),
         threads: arguments.number("threads", threads)?,
     };

@@ -2,8 +2,11 @@
 //! they have to find. The programs `differential` and `convergence` go further.
 
 mod wrong_replay;
+mod wrong_why;
 
-use nt2_sys::{Answer, Copied, DELIVERY_MESSAGES, Delivered, Fields, LentTable, Replayed, Scalar};
+use nt2_sys::{
+    Answer, Copied, DELIVERY_MESSAGES, Delivered, Fields, LentTable, Reason, Replayed, Scalar,
+};
 use nt2_tests::acceptance::{folder, run_file};
 use nt2_tests::convergence::{replayed, run};
 use nt2_tests::differential::{Bounds, compare};
@@ -60,6 +63,7 @@ const LINE_RECORD: usize = 15;
 const EQUAL_AS_NUMBERS: usize = 16;
 const COUNT_NOT_COMPARED: usize = 17;
 const FIRST_ELEMENT_COMPARED: usize = 18;
+const WHY: usize = 19;
 
 /// The answer to a delivery with one fault.
 fn faulty_delivery<const FAULT: usize>(input: &[u8], room: usize, answer: Delivered) -> Delivered {
@@ -173,6 +177,14 @@ impl<const FAULT: usize> Implementation for Faulty<FAULT> {
             return wrong_replay::replay(fault, table, marks, record);
         }
         Reference::replay(table, marks, record)
+    }
+
+    fn why(table: LentTable<'_>, marks: &mut [u8], connection: usize, message: &[u8]) -> Reason {
+        if FAULT == WHY {
+            let fault = *WHY_FAULT.lock().unwrap();
+            return wrong_why::why(fault, table, marks, connection, message);
+        }
+        Reference::why(table, marks, connection, message)
     }
 
     fn create(
@@ -315,6 +327,35 @@ fn faults_of_line_records_are_found() {
     for fault in Fault::ALL {
         let in_no_case =
             matches!(fault, Fault::CutRecordTaken | Fault::ClosedGathers | Fault::HeldOneTooFew);
+        assert_eq!(found(fault), (true, !in_no_case), "{fault:?}");
+    }
+}
+
+/// The fault of the reasons that `Faulty<WHY>` tells.
+static WHY_FAULT: Mutex<wrong_why::Fault> = Mutex::new(wrong_why::Fault::Nothing);
+
+/// By the differential test, and by the acceptance cases.
+#[test]
+fn faults_of_reasons_are_found() {
+    use wrong_why::Fault;
+    let found = |fault| {
+        *WHY_FAULT.lock().unwrap() = fault;
+        let cases = run_file::<Faulty<WHY>>(&folder(), "why.json").unwrap();
+        let compared = compare::<Reference, Faulty<WHY>>(BOUNDS);
+        (compared.is_err(), !cases.failures.is_empty())
+    };
+    assert_eq!(found(Fault::Nothing), (false, false));
+    for fault in Fault::ALL {
+        let in_no_case = matches!(
+            fault,
+            Fault::HelloWithLittleRoom
+                | Fault::LastBadBoolean
+                | Fault::MarksNotJudged
+                | Fault::ClosedAfterTheKind
+                | Fault::LengthAfterTheText
+                | Fault::MissingBeforeABadBoolean
+                | Fault::StringsJudgedAtTheCount
+        );
         assert_eq!(found(fault), (true, !in_no_case), "{fault:?}");
     }
 }
