@@ -3,7 +3,7 @@
 use crate::record::LineRecord;
 use nt2_sys::{
     Answer, CONNECTIONS, Copied, DELIVERY_MESSAGES, Delivered, ENTRIES, ENTRY_ROOM, HEADING, Head,
-    LONGEST_HELLO_ANSWER, LentTable, NAME_ROOM, TABLE_BYTES,
+    LONGEST_HELLO_ANSWER, LentTable, NAME_ROOM, Reason, TABLE_BYTES,
 };
 use nt2_tests::implementation::Implementation;
 use std::hint::black_box;
@@ -28,7 +28,7 @@ pub const REPLAY_UPDATES: &str = "replay 60 KB, updates";
 pub const REPLAY_ENTRIES: &str = "replay 60 KB, entries";
 
 /// The calls; those from `TABLE_CALLS` on have no table.
-pub const CALLS: [&str; 25] = [
+pub const CALLS: [&str; 29] = [
     "fresh",
     "open",
     "leave",
@@ -42,6 +42,10 @@ pub const CALLS: [&str; 25] = [
     RECEIVE_UPDATES,
     REPLAY_UPDATES,
     REPLAY_ENTRIES,
+    "why new update",
+    "why old update",
+    "why held entry",
+    "why cut entry",
     "create",
     "write",
     "write equal",
@@ -55,7 +59,7 @@ pub const CALLS: [&str; 25] = [
     "decode assignment",
     "decode update",
 ];
-const TABLE_CALLS: usize = 21;
+const TABLE_CALLS: usize = 25;
 
 /// How many entries the tables have.
 pub const SIZES: [usize; 3] = [1, 16, 64];
@@ -288,6 +292,20 @@ impl Subject {
             REPLAY_UPDATES | REPLAY_ENTRIES => {
                 self.replay::<I>(usize::from(CALLS[call] == REPLAY_ENTRIES), times);
             }
+            "why new update" | "why old update" => {
+                let new = CALLS[call] == "why new update";
+                let step = if new { 1 } else { u16::MAX };
+                let number = self.heads[last].number.wrapping_add(step);
+                let message = update(id, number, &self.values[0]);
+                let reason = if new { Reason::APPLIED } else { Reason::OLDER };
+                self.why::<I>(&message, reason, times);
+            }
+            "why held entry" | "why cut entry" => {
+                let cut = usize::from(CALLS[call] == "why cut entry");
+                let message = self.assignment[..self.assignment.len() - cut].to_vec();
+                let reason = if cut == 1 { Reason::REFUSED } else { Reason::NAME_HELD };
+                self.why::<I>(&message, reason, times);
+            }
             "create" => {
                 let (name, value) = (self.name.clone(), self.values[0].clone());
                 for _ in 0..times {
@@ -405,6 +423,18 @@ impl Subject {
         }
         assert_eq!(self.count, entries);
         self.marks = [2; CONNECTIONS];
+        self.marks[SENDER] = 1;
+    }
+
+    /// Asks about a message, which changes nothing.
+    fn why<I: Implementation>(&mut self, message: &[u8], reason: u8, times: usize) {
+        self.marks[SENDER] = 2;
+        for _ in 0..times {
+            let Subject { heads, bytes, count, marks, .. } = self;
+            let table = LentTable { heads, bytes, count };
+            let told = black_box(I::why(table, marks, black_box(SENDER), black_box(message)));
+            assert_eq!(told.reason, reason);
+        }
         self.marks[SENDER] = 1;
     }
 

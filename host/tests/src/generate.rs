@@ -198,7 +198,7 @@ impl Generator {
         (Call::Receive { connection, message: Hex(message) }, room)
     }
 
-    /// A message of which many a one is cut.
+    /// Asks about a client's message; every second one is cut.
     fn why(&mut self, server: &Memory) -> Call {
         let connection = self.sender(server);
         let mut message = self.client_message(server, connection);

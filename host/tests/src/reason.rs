@@ -25,8 +25,9 @@ pub fn keeps_form(reason: Reason) -> bool {
         Reason::UNDEFINED => distance == HALF,
         _ => distance == 0,
     };
-    let (has_id, has_place) = (id == 0 || reason == Reason::NAME_HELD, reason == Reason::REFUSED);
-    has_number && has_distance && has_id && (place == 0 || has_place)
+    let has_id = id == 0 || reason == Reason::NAME_HELD;
+    let has_place = place == 0 || reason == Reason::REFUSED;
+    has_number && has_distance && has_id && has_place
 }
 
 /// Makes the call that a reason is about, lent the longest output, and answers what comes of it where
@@ -264,5 +265,57 @@ impl Asked<'_> {
             ("10 at an element's length", at(10, Field::ElementLength)),
             ("11", refused(11)),
         ]
+    }
+}
+
+#[cfg(test)]
+mod tests {
+    use super::*;
+    use nt2_sys::Head;
+
+    #[test]
+    fn fields_of_messages() {
+        let server = Memory::new(&[Head { type_code: 0x12, ..Head::default() }], &[], 1, &[]);
+        let layout = Layout::of(&server, b"\x11\x00\x00\x00\x02\x02\x00\x00\x00\x02a");
+        let fields = [
+            (Field::Kind, 0),
+            (Field::Id, 1),
+            (Field::Number, 3),
+            (Field::Count, 5),
+            (Field::ElementLength, 6),
+            (Field::Element, 8),
+            (Field::ElementLength, 8),
+            (Field::Element, 10),
+        ];
+        assert_eq!(layout.fields, fields);
+        assert_eq!((layout.at(8), layout.taken), (Some(Field::ElementLength), None));
+        let layout = Layout::of(&server, b"\x10\x00\x01a\x00\xFF\xFF\x00\x00\x01\x00");
+        let value = layout.fields.last();
+        assert_eq!((value, layout.taken), (Some(&(Field::Boolean, 9)), Some(10)));
+    }
+
+    #[test]
+    fn reasons_tell_what_is_theirs() {
+        let reason = |reason, number| Reason { reason, number, ..Reason::default() };
+        let good = [
+            Reason { place: 3, ..reason(Reason::REFUSED, 9) },
+            Reason { id: 63, ..reason(Reason::NAME_HELD, 16) },
+            Reason { distance: 32_767, ..reason(Reason::OLDER, 16) },
+            Reason { distance: 32_768, ..reason(Reason::UNDEFINED, 16) },
+            Reason { distance: 1, ..reason(Reason::APPLIED, 0) },
+            reason(Reason::DONE, 0),
+        ];
+        let bad = [
+            reason(Reason::REFUSED, 0),
+            reason(Reason::REFUSED, 12),
+            reason(Reason::KEEP_ALIVE, 0),
+            Reason { id: 1, ..reason(Reason::EQUAL, 16) },
+            Reason { distance: 32_768, ..reason(Reason::OLDER, 16) },
+            Reason { distance: 0, ..reason(Reason::APPLIED, 0) },
+            Reason { place: 1, ..reason(Reason::DONE, 0) },
+            reason(8, 0),
+        ];
+        assert!(good.into_iter().all(keeps_form));
+        assert!(!bad.into_iter().any(keeps_form));
     }
 }
