@@ -471,9 +471,12 @@ pub fn compare<L: Implementation, R: Implementation>(bounds: Bounds) -> Result<R
     };
     thread::scope(|scope| {
         let workers: Vec<_> = (0..bounds.threads.max(1)).map(|_| scope.spawn(work)).collect();
+        // All of them are joined: the scope panics where one that panicked is not.
+        let joined = workers.into_iter().map(|worker| worker.join());
+        let reports: Vec<Result<Report, String>> =
+            joined.map(|report| report.unwrap_or(Err("a series panicked".into()))).collect();
         let mut total = Report::new();
-        for worker in workers {
-            let report: Result<Report, String> = worker.join().map_err(|_| "a series panicked")?;
+        for report in reports {
             total.add(&report?);
         }
         Ok(total)
