@@ -306,9 +306,12 @@ impl<L: Implementation, R: Implementation> Series<L, R> {
         }
     }
 
-    /// Makes a call on both sides and compares. A client's message is asked about first.
+    /// Makes a call on both sides and compares. A client's message is asked about first, and so is the
+    /// first one of a delivery.
     fn compare(&mut self, call: &Call, room: usize) -> Result<(), String> {
-        if let Call::Receive { connection, message } = call {
+        if let Call::Receive { connection, message }
+        | Call::Deliver { connection, input: message } = call
+        {
             let why = Call::Why { connection: *connection, message: message.clone() };
             self.compare_one(&why, 0)?;
         }

@@ -153,6 +153,10 @@ fn refused_assignments<I: Implementation>() {
     cut_value(0x11, &[32, 0, 0], &[9], refused(10, 9));
     cut_value(0x12, b"\x02\x00\x01x\x01\x00", &[9, 10, 10, 12, 13, 13], refused(10, 13));
     cut_value(0x12, b"\x03\x00\x00\x00\x02x\xC3", &[9, 10, 10, 12, 12, 14, 14], refused(9, 14));
+    // Of 200 empty texts the 128th is too long.
+    let missing: Vec<usize> =
+        [9].into_iter().chain((0..128).flat_map(|i| [10 + 2 * i; 2])).collect();
+    cut_value(0x12, &[&[200][..], &[0; 400]].concat(), &missing, refused(10, 10 + 2 * 127));
 }
 
 /// Behind the ID its number of two bytes, then the value of the stored type.
