@@ -2,7 +2,7 @@
 use mathlib.Core.Path.{_≡_, refl, sym, ap, _∙_}
 use mathlib.Core.Bool.{Bool, true, false, not, _&&_, _||_, and-false, or-false, or-assoc, and-eq-true-iff, true≢false}
 use mathlib.Core.List.{List, [], _∷_, _++_}
-use Prim.Native.Nat.{ℕ, zero, suc, _<_}
+use Prim.Native.Nat.{ℕ, zero, suc, _≤_, _<_}
 use native.Mathlib.Nat.{not-suc-le-zero}
 use native.Mathlib.Omega.{arith}
 use lib.Dec.{ltb, leb·suc-suc}
@@ -11,6 +11,7 @@ use borrow.Author.Tests.{lt-ltb, le-ltb, not-true}
 use Rattle.field.specs.Choice.{pick}
 use Rattle.message.specs.Layout.{Entry}
 use Rattle.field.specs.Octets.{bytesEqual}
+use Rattle.field.proofs.ChoiceLaws.{by-test}
 use Rattle.field.proofs.EqualLaws.{bytes-equal-sym, equal-bytes, bytes-equal-false}
 use Rattle.table.specs.Names.{holder, nameHeld, namesDiffer}
 
@@ -33,6 +34,12 @@ pub holder-absent : (name : List ℕ) (es : List Entry) (d : Entry) → ((i : �
 unfolding holder pick
 holder-absent name [] d h = refl
 holder-absent name (e ∷ es) d h = rw (h 0 (omega arith)) (ap suc (holder-absent name es d (λ i l. h (suc i) (omega arith))))
+
+-- it is past them at most
+pub holder-most : (name : List ℕ) (es : List Entry) → holder name es ≤ length es
+unfolding holder
+holder-most name [] = omega arith
+holder-most name (e ∷ es) = by-test (λ (n : ℕ). n ≤ suc (length es)) (bytesEqual (e .name) name) _ _ (λ _. omega arith) (λ _. omega (arith, holder-most name es))
 
 -- it is entry id's, and none before it has it
 pub holder-first : (name : List ℕ) (es : List Entry) (d : Entry) (id : ℕ) → id < length es

@@ -13,7 +13,7 @@ use Rattle.field.specs.Octets.{bytesEqual}
 use Rattle.field.proofs.EqualLaws.{is-false, bytes-equal-true}
 use Rattle.table.specs.Names.{holder, nameHeld, namesDiffer}
 use Rattle.table.specs.Table.{TableMemory, nameLengthField, valueLengthField, nameStart, valueStart, headField, HasName, HasValue, entryAt, Holds, Named, Readable, tabulate, entriesOf}
-use Rattle.table.proofs.NamesLaws.{holder-found, holder-absent, holder-first, held-at, differ-last, differ-at, at-differ}
+use Rattle.table.proofs.NamesLaws.{holder-found, holder-absent, holder-most, holder-first, held-at, differ-last, differ-at, at-differ}
 use Rattle.table.proofs.TabulateLaws.{length-tabulate, getD-tabulate, length-entries}
 
 -- ---- an entry that is within memory
@@ -131,3 +131,6 @@ found-held table name id e h = rw (← e, length-entries table) (lt-ltb id (tabl
 pub not-found : (table : TableMemory) (name : List ℕ) (id : ℕ) → id ≡ holder name (entriesOf table) → table .count ≤ id → nameHeld name (entriesOf table) ≡ false
 unfolding nameHeld
 not-found table name id e h = rw (← e, length-entries table) (le-ltb id (table .count) h)
+
+pub found-most : (table : TableMemory) (name : List ℕ) (id : ℕ) → id ≡ holder name (entriesOf table) → id ≤ table .count
+found-most table name id e = rw e (omega (arith, holder-most name (entriesOf table), length-entries table))

@@ -2,15 +2,14 @@
 use mathlib.Core.Path.{_≡_, refl, sym, ap, subst, _∙_}
 use mathlib.Core.Logic.{_≢_}
 use mathlib.Core.Bool.{Bool}
-use mathlib.Core.List.{List, [], _∷_}
-use Prim.Native.Nat.{ℕ, suc, _≤_, _<_}
+use mathlib.Core.List.{List}
+use Prim.Native.Nat.{ℕ, _≤_, _<_}
 use native.Mathlib.Omega.{arith}
 use lib.Dec.{ltb}
 use lib.ListN.{length, getD}
 use borrow.Author.Tests.{leb-true, ltb-true, eqb-true}
 use Rattle.field.specs.Choice.{pick}
 use Rattle.field.specs.declared.Fault.{Fault}
-use Rattle.field.specs.Octets.{bytesEqual}
 use Rattle.field.proofs.ChoiceLaws.{by-test, pick-true}
 use Rattle.message.specs.Layout.{Entry, keepAliveKind, assignmentKind, updateKind}
 use Rattle.message.specs.Reader.{idAllowed}
@@ -20,7 +19,6 @@ use Rattle.message.specs.declared.AssignmentRead.the-variants as A
 use Rattle.message.specs.declared.UpdateRead.{UpdateRead}
 use Rattle.message.specs.declared.UpdateRead.the-variants as U
 use Rattle.message.proofs.TakenLaws.{AssignmentIs, assignment-is, UpdateIs, update-is}
-use Rattle.table.specs.Names.{holder}
 use Rattle.table.specs.Table.{TableMemory, defaultEntry, entriesOf, maxEntries}
 use Rattle.table.proofs.TabulateLaws.{length-entries}
 use Rattle.recipients.specs.Recipients.{Recipients}
@@ -126,12 +124,3 @@ module _ (table : TableMemory) (marks m : List ℕ) (c : ℕ) (s : SoundCall tab
       → ReadAgain (table .count) m
   ignored-again d taken is h =
       subst (λ (n : ℕ). ReadAgain n m) (length-entries table) (read-again maxEntries (entriesOf table) m marks c taken (sym (h .verdict) ∙ ap (verdictOf c m) is))
-
--- the first entry with a name is one of those that there are, or past them
-pub holder-most : (name : List ℕ) (es : List Entry) → holder name es ≤ length es
-unfolding holder
-holder-most name [] = omega arith
-holder-most name (e ∷ es) = by-test (λ (n : ℕ). n ≤ suc (length es)) (bytesEqual (e .name) name) _ _ (λ _. omega arith) (λ _. omega (arith, holder-most name es))
-
-pub search-most : (table : TableMemory) (name : List ℕ) (id : ℕ) → id ≡ holder name (entriesOf table) → id ≤ table .count
-search-most table name id e = rw e (omega (arith, holder-most name (entriesOf table), length-entries table))

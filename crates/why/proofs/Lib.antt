@@ -1,1 +1,2 @@
 pub mod IgnoredLaws
+pub mod AnswerLaws

@@ -1,5 +1,6 @@
 -- A reason as the C struct has it: a field that a reason does not have is 0.
 use Prim.Native.Nat.{ℕ}
+use mathlib.Core.Path.{_≡_}
 use Rattle.sequence.specs.SequenceNumber.{half}
 use Rattle.reason.specs.Reason.{numberOf}
 use Rattle.reason.specs.declared.Reason.{Reason}
@@ -20,3 +21,7 @@ reasonAnswer (Older distance) = answerOf (Older distance) 4 0 distance 0
 reasonAnswer Undefined = answerOf Undefined 5 0 half 0
 reasonAnswer (Applied distance) = answerOf (Applied distance) 6 0 distance 0
 reasonAnswer Done = answerOf Done 7 0 0 0
+
+-- an answer is that of one reason: nothing of it is lost. Proved in proofs/AnswerLaws.antt
+abbrev pub AnswerTells : Type 0
+AnswerTells = (r s : Reason) → reasonAnswer r ≡ reasonAnswer s → r ≡ s

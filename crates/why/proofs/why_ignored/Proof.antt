@@ -8,12 +8,12 @@ use borrow.Author.Tests.{eq-eqb, ne-eqb}
 use Rattle.field.specs.Choice.{pick}
 use Rattle.message.specs.Layout.{Entry, keepAliveKind, assignmentKind, assignmentNameStart}
 use Rattle.table.specs.Table.{TableMemory, tableMemory, defaultEntry, entryAt, entriesOf, maxEntries}
-use Rattle.table.proofs.TabulateLaws.{length-entries, entry-get}
+use Rattle.table.proofs.SearchLaws.{found-most}
+use Rattle.table.proofs.TabulateLaws.{entry-get}
 use Rattle.soundness.proofs.ReadableLaws.{sound-named, sound-holds, sound-count}
 use Rattle.places.specs.MessageFails.{updateIdIn}
 use Rattle.reason.specs.Explain.{ignoredReason}
 use Rattle.why.specs.Ignored.{ReadAgain}
-use Rattle.why.proofs.IgnoredLaws.{search-most}
 use borrow.Author.Needs.{needs}
 use Rattle.why.proofs.why_ignored.Statement.{statement}
 use Rattle.why.proofs.why_ignored.Tie as tie
@@ -59,7 +59,7 @@ find-name-requires : tie.Need-find-name-requires
 find-name-requires c κs = let s = to-start (c .before .before .before) in sound-named maxEntries (memory s) (s .pre .0)
 
 cast-t17 : tie.Need-cast-t17
-cast-t17 c = omega (arith, search-most (memory (to-start (to-else c))) _ _ (c .find-name .ensures))
+cast-t17 c = omega (arith, found-most (memory (to-start (to-else c))) _ _ (c .find-name .ensures))
 
 returns-2 : tie.Need-returns-2
 unfolding ignoredReason pick
