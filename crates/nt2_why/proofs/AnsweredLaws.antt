@@ -1,12 +1,9 @@
 -- The exported call gives the number, and tells the place, of the exported reason.
 use mathlib.Core.Path.{_≡_, refl, sym, ap, _∙_}
-use mathlib.Core.List.{List}
-use Prim.Native.Nat.{ℕ}
 use native.Mathlib.Omega.{arith}
 use borrow.Author.Tests.{le-leb}
 use Rattle.field.specs.Choice.{pick}
 use Rattle.field.specs.Place.{TellsPlace, reportedPlace, WithPlace}
-use Rattle.field.specs.declared.Fault.{Fault}
 use Rattle.table.specs.Table.{maxEntries}
 use Rattle.protocol.specs.Step.{CallResult}
 use Rattle.reason.specs.Reason.{numberOf}

@@ -3,30 +3,28 @@ use mathlib.Core.Path.{_≡_, refl, sym, ap, _∙_}
 use mathlib.Core.Logic.{_≢_}
 use mathlib.Core.Bool.{Bool, true, false, false≢true, not, _&&_, and-eq-true-iff}
 use mathlib.Core.List.{List}
-use Prim.Native.Nat.{ℕ, _≤_, _<_}
+use Prim.Native.Nat.{ℕ, _<_}
 use native.Mathlib.Omega.{arith}
 use lib.Dec.{leb, ltb, eqb}
 use lib.ListN.{length, getD}
-use borrow.Author.Tests.{leb-true, ltb-true, eqb-true, eqb-false, ltb-false, le-leb, lt-ltb, ne-eqb, not-true, not-false}
+use borrow.Author.Tests.{leb-true, ltb-true, eqb-true, eqb-false, ltb-false, le-leb, ne-eqb, not-true, not-false}
 use Rattle.field.specs.Choice.{pick}
 use Rattle.field.specs.Place.{reportedPlace}
 use Rattle.field.specs.declared.Fault.{Fault}
 use Rattle.field.proofs.ChoiceLaws.{by-test, pick-true, pick-false}
 use Rattle.sequence.specs.SequenceNumber.{half, distance, passedBy}
-use Rattle.message.specs.Layout.{Entry, keepAliveKind, helloKind, assignmentKind, updateKind}
-use Rattle.message.specs.Reader.{idAllowed, parseAssignment, nameIn}
-use Rattle.message.specs.declared.AllowedId.the-variants.{Only}
+use Rattle.message.specs.Layout.{Entry, keepAliveKind, assignmentKind, updateKind}
+use Rattle.message.specs.Reader.{nameIn}
 use Rattle.message.specs.declared.AssignmentRead.{AssignmentRead}
 use Rattle.message.specs.declared.AssignmentRead.the-variants as A
 use Rattle.message.specs.declared.UpdateRead.{UpdateRead}
 use Rattle.message.specs.declared.UpdateRead.the-variants as U
 use Rattle.message.proofs.TakenLaws.{UpdateIs, update-is}
 use Rattle.table.specs.Names.{nameHeld}
-use Rattle.table.specs.Table.{defaultEntry, entriesOf, parseHeldUpdate}
+use Rattle.table.specs.Table.{defaultEntry, entriesOf}
 use Rattle.soundness.specs.Sound.{soundTable, soundMarks}
-use Rattle.hello.specs.Hello.{longestHello}
-use Rattle.protocol.specs.Judge.{clientMessage, Verdict, refuse, ignore, readDone, openMark, closeMark, acceptHello, unsupportedRevision, storeNew, storeUpdate, newId, judgeHello, judgeAssignment, judgeUpdate, judgeKind, judgeMessage, judge}
-use Rattle.protocol.specs.Step.{ServerMemory, CallResult, callStep, refusal}
+use Rattle.protocol.specs.Judge.{clientMessage, Verdict, refuse, ignore, readDone, openMark, closeMark, acceptHello, unsupportedRevision, storeNew, storeUpdate, judgeHello, judgeAssignment, judgeUpdate, judgeKind, judgeMessage, judge}
+use Rattle.protocol.specs.Step.{ServerMemory, CallResult, callStep}
 use Rattle.protocol.specs.Effect.{Effect}
 use Rattle.protocol.specs.Kept.{SoundMemory}
 use Rattle.protocol.specs.Place.{placeOf, callPlace}
@@ -34,7 +32,7 @@ use Rattle.protocol.specs.Taken.{messageCall}
 use Rattle.protocol.proofs.RoomLaws.{withRoom, call-with-room}
 use Rattle.reason.specs.Reason.{numberOf, refusedAt}
 use Rattle.reason.specs.Checks.{numberChecks, storedIn, receivedIn}
-use Rattle.reason.specs.Why.{firstFailing, why}
+use Rattle.reason.specs.Why.{firstFailing}
 use Rattle.reason.specs.Explain.{numberReason, ignoredReason, explain, verdictReason}
 use Rattle.reason.specs.Answered.{CallGives, placeTold, CallTellsPlace}
 use Rattle.reason.specs.declared.Reason.{Reason}

@@ -1,19 +1,16 @@
 -- What decides is all that is looked at: where a message is not answered 1, bytes behind it change nothing. So one that is cut before the field that is named is answered 1.
 use mathlib.Core.Path.{_≡_, refl, sym, ap, _∙_}
 use mathlib.Core.Logic.{_≢_}
-use mathlib.Core.Bool.{Bool, true, false, false≢true, not, _&&_, _||_}
+use mathlib.Core.Bool.{Bool, true, false, false≢true, not, _||_}
 use mathlib.Core.List.{List, [], _∷_, _++_}
-use Prim.Native.Nat.{ℕ, zero, suc, _+_, _-_, _*_, _≤_, _<_}
+use Prim.Native.Nat.{ℕ, zero, suc, _+_, _-_, _≤_, _<_}
 use native.Mathlib.Omega.{arith}
 use lib.Dec.{leb, ltb, eqb}
 use lib.ListN.{length, take, drop, getD, length-take, take-append-drop}
 use lib.Seq.{take-append-seam, take-length}
 use borrow.Author.Tests.{leb-true, le-leb, eqb-true, eqb-false}
 use Rattle.field.specs.Choice.{pick}
-use Rattle.field.specs.Octets.{decode16}
 use Rattle.field.specs.Place.{TellsPlace}
-use Rattle.field.specs.declared.Fault.{Fault}
-use Rattle.field.proofs.ChoiceLaws.{by-test}
 use Rattle.field.proofs.OctetsLaws.{decode-at, same-length, same-getD, same-front, same-rest}
 use Rattle.sequence.specs.SequenceNumber.{distance}
 use Rattle.utf8.specs.Utf8.{isUtf8}

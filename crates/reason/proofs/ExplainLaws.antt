@@ -1,11 +1,11 @@
 -- The first check that fails is what the verdict on the message says.
 use mathlib.Core.Path.{_≡_, refl, sym, ap, _∙_}
-use mathlib.Core.Bool.{Bool, true, false, not, _&&_, _||_, and-eq-true-iff}
+use mathlib.Core.Bool.{Bool, true, false, not, _&&_, and-eq-true-iff}
 use mathlib.Core.List.{List, [], _∷_, _++_}
-use Prim.Native.Nat.{ℕ, _+_, _-_, _<_}
+use Prim.Native.Nat.{ℕ, _+_, _-_}
 use native.Mathlib.Omega.{arith}
 use lib.Dec.{leb, ltb, eqb}
-use lib.ListN.{length, take, drop, getD}
+use lib.ListN.{length, drop, getD}
 use borrow.Author.Tests.{ltb-true, eqb-true}
 use Rattle.field.specs.Choice.{pick}
 use Rattle.field.specs.Octets.{decode16}
@@ -26,20 +26,19 @@ use Rattle.message.specs.declared.UpdateRead.{UpdateRead}
 use Rattle.message.specs.declared.UpdateRead.the-variants as U
 use Rattle.reader.specs.Reader.{parseTextAt, parseValueAt}
 use Rattle.table.specs.Names.{holder, nameHeld}
-use Rattle.table.specs.Table.{defaultEntry, entriesOf, parseHeldUpdate}
+use Rattle.table.specs.Table.{entriesOf, parseHeldUpdate}
 use Rattle.soundness.specs.Sound.{soundTable, soundMarks}
 use Rattle.places.specs.MessageFails.{nameLengthIn, typeStart, valueStart, updateIdIn}
 use Rattle.places.specs.PlaceTells.{storedType}
 use Rattle.places.proofs.PlaceTellsLaws.{KnownTypes, sound-types}
 use Rattle.protocol.specs.Judge.{clientMessage, Verdict, refuse, acceptHello, unsupportedRevision, newId, judgeHello, judgeAssignment, judgeUpdate, demandGreeted, judgeKind, judgeMessage, judge}
-use Rattle.protocol.specs.Step.{ServerMemory}
 use Rattle.reason.specs.Reason.{refusedAt}
 use Rattle.reason.specs.Checks.{Check, there, obeys, numberIn, textSize, textChecks, valueChecks, helloChecks, assignmentChecks, numberChecks, storedIn, receivedIn, updateChecks, fromClient, stateAllows, behindKind, checks}
 use Rattle.reason.specs.Why.{firstFailing, whenPassed, why}
 use Rattle.reason.specs.Explain.{numberReason, ignoredReason, explain, WhyExplained}
 use Rattle.reason.specs.declared.Reason.{Reason}
 use Rattle.reason.specs.declared.Reason.the-variants.{Refused, NameHeld, Applied, Done}
-use Rattle.reason.proofs.FieldLaws.{failing-both, readAt, text-checks, value-checks}
+use Rattle.reason.proofs.FieldLaws.{failing-both, text-checks, value-checks}
 
 -- ---- choices
 

@@ -2,24 +2,21 @@
 use mathlib.Core.Path.{_≡_, refl, sym, ap, _∙_}
 use mathlib.Core.Bool.{Bool, true, false}
 use mathlib.Core.List.{List, [], _∷_, _++_}
-use Prim.Native.Nat.{ℕ, zero, suc, _+_, _-_, _*_, _≤_, _<_}
+use Prim.Native.Nat.{ℕ, zero, suc, _+_, _-_, _≤_}
 use native.Mathlib.Omega.{arith}
 use lib.Dec.{leb, eqb}
-use lib.ListN.{length, take, drop, getD, length-drop}
+use lib.ListN.{length, drop, getD, length-drop}
 use lib.Seq.{drop-drop, getD-drop}
 use borrow.Author.Tests.{leb-true, leb-false, le-leb, lt-leb}
 use Rattle.field.specs.Choice.{pick}
 use Rattle.field.specs.Octets.{decode16}
 use Rattle.field.specs.Field.{faultAt, movedBy, andThen}
-use Rattle.field.specs.declared.Fault.{Fault}
 use Rattle.field.specs.declared.Parsed.{Parsed}
 use Rattle.field.specs.declared.Parsed.the-variants as R
-use Rattle.field.proofs.ChoiceLaws.{by-test, pick-cong}
-use Rattle.utf8.specs.Utf8.{isUtf8}
 use Rattle.text.specs.Text.{parseText}
-use Rattle.value.specs.Value.{string, arrayOf, knownType, maxValueSize, countFits, parseBoolean, parseDouble, parseElement, elements, parseArray, parseValue}
+use Rattle.value.specs.Value.{string, arrayOf, knownType, maxValueSize, parseBoolean, parseDouble, parseElement, elements, parseArray, parseValue}
 use Rattle.reason.specs.Reason.{refusedAt}
-use Rattle.reason.specs.Checks.{Check, there, obeys, textSize, numberIn, textChecks, elementChecks, elementSize, elementsChecks, arrayChecks, valueChecks}
+use Rattle.reason.specs.Checks.{Check, there, obeys, textSize, textChecks, elementChecks, elementSize, elementsChecks, arrayChecks, valueChecks}
 use Rattle.reason.specs.Why.{firstFailing}
 use Rattle.reason.specs.declared.Reason.{Reason}
 use Rattle.reason.specs.declared.Reason.the-variants.{Refused}

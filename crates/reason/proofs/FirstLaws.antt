@@ -1,6 +1,6 @@
 -- The reason is that of the first check that fails, and of no other.
 use mathlib.Core.Path.{_≡_, refl, sym, ap, _∙_}
-use mathlib.Core.Bool.{Bool, true, false, false≢true}
+use mathlib.Core.Bool.{true, false}
 use mathlib.Core.List.{List, [], _∷_, _++_}
 use Rattle.field.specs.Choice.{pick}
 use Rattle.field.proofs.ChoiceLaws.{by-test}

@@ -1,22 +1,19 @@
 -- The reason named is true of the message.
-use mathlib.Core.Path.{_≡_, refl, sym, ap, subst, _∙_}
+use mathlib.Core.Path.{_≡_, refl, sym, subst, _∙_}
 use mathlib.Core.Logic.{_≢_}
 use mathlib.Core.Bool.{Bool, true, false, false≢true, _&&_, and-eq-true-iff}
 use mathlib.Core.List.{List}
-use Prim.Native.Nat.{ℕ, _≤_, _<_}
-use native.Mathlib.Omega.{arith}
-use lib.Dec.{leb, ltb, eqb}
+use Prim.Native.Nat.{ℕ, _≤_}
+use lib.Dec.{leb, ltb}
 use lib.ListN.{length, drop, getD}
 use borrow.Author.Tests.{leb-true, leb-false, ltb-true, ltb-false, eqb-true, eqb-false}
 use Rattle.field.specs.Choice.{pick}
 use Rattle.field.specs.Octets.{decode16}
-use Rattle.field.specs.Field.{faultAt}
-use Rattle.field.specs.declared.Fault.{Fault}
-use Rattle.field.proofs.ChoiceLaws.{by-test, pick-true}
+use Rattle.field.proofs.ChoiceLaws.{by-test}
 use Rattle.field.proofs.EqualLaws.{bytes-equal-true}
 use Rattle.sequence.specs.SequenceNumber.{half, distance, passedBy}
-use Rattle.message.specs.Layout.{Entry, hello, keepAlive, assignment, update, keepAliveKind, helloKind, assignmentKind, updateKind, kindSize, layout}
-use Rattle.message.specs.Reader.{idAllowed, parseAssignment, nameIn, entryIn, updateValueIn, Bytes, BeginsWith}
+use Rattle.message.specs.Layout.{Entry, hello, assignment, update, keepAliveKind, helloKind, assignmentKind, updateKind, layout}
+use Rattle.message.specs.Reader.{idAllowed, nameIn, entryIn, updateValueIn, Bytes, BeginsWith}
 use Rattle.message.specs.declared.AllowedId.the-variants.{Only}
 use Rattle.message.specs.declared.AssignmentRead.{AssignmentRead}
 use Rattle.message.specs.declared.AssignmentRead.the-variants as A
@@ -26,18 +23,17 @@ use Rattle.message.proofs.FirstLaws.{AssignmentFirst, assignment-first, UpdateF
 use Rattle.message.proofs.ReadBytesLaws.{revision-stands, kind-stands}
 use Rattle.message.proofs.TakenLaws.{AssignmentIs, assignment-is, UpdateIs, update-is}
 use Rattle.table.specs.Names.{holder, nameHeld}
-use Rattle.table.specs.Table.{defaultEntry, entriesOf, parseHeldUpdate}
+use Rattle.table.specs.Table.{defaultEntry, entriesOf}
 use Rattle.table.proofs.NamesLaws.{holder-found}
-use Rattle.soundness.specs.Sound.{soundTable, soundMarks, closed, open′, greeted}
+use Rattle.soundness.specs.Sound.{soundTable, soundMarks, greeted}
 use Rattle.places.specs.MessageFails.{MessageFailsAt, nameLengthIn}
 use Rattle.places.specs.PlaceTells.{storedType}
 use Rattle.places.proofs.PlaceTellsLaws.{KnownTypes, sound-types}
 use Rattle.places.proofs.MessageFailsLaws.{AssignmentRefuses, assignment-refuses, UpdateRefuses, update-refuses}
-use Rattle.protocol.specs.Judge.{clientMessage, Verdict, refuse, ignore, newId, judgeHello, judgeAssignment, judgeUpdate, judgeKind, judgeMessage, judge}
+use Rattle.protocol.specs.Judge.{clientMessage, Verdict, ignore, newId, judgeHello, judgeAssignment, judgeUpdate, judgeKind, judgeMessage, judge}
 use Rattle.protocol.specs.Step.{ServerMemory}
 use Rattle.protocol.specs.Taken.{StandsFirst}
 use Rattle.reason.specs.Checks.{storedIn, receivedIn}
-use Rattle.reason.specs.Why.{why}
 use Rattle.reason.specs.Explain.{numberReason, ignoredReason, explain}
 use Rattle.reason.specs.Holds.{UpdateStands, NewNameStands, HoldsOf, ReasonHolds}
 use Rattle.reason.specs.declared.Reason.{Reason}

@@ -1,6 +1,6 @@
 -- The reason of a verdict: the call itself goes by the verdict (`judge`), so what is said of it cannot differ from what is done.
 use Prim.Native.Nat.{ℕ}
-use mathlib.Core.Bool.{true, _&&_}
+use mathlib.Core.Bool.{_&&_}
 use mathlib.Core.List.{List}
 use mathlib.Core.Path.{_≡_}
 use lib.ListN.{getD}

@@ -1,21 +1,15 @@
 -- "no earlier check in 01's order fails"; one reason and no other. Proved in proofs/FirstLaws.antt and proofs/CutLaws.antt.
-use Prim.Native.Nat.{ℕ, _≤_}
+use Prim.Native.Nat.{ℕ}
 use mathlib.Core.Bool.{true, false}
 use mathlib.Core.List.{List, [], _∷_, _++_}
 use mathlib.Core.Path.{_≡_}
-use mathlib.Core.Logic.{_≢_, _⊎_}
-use lib.ListN.{take, getD}
-use Rattle.field.specs.Answer.{incomplete, unknownKind, tooLong}
-use Rattle.field.specs.declared.Fault.{Fault}
+use lib.ListN.{getD}
 use Rattle.table.specs.Table.{entriesOf}
-use Rattle.protocol.specs.Step.{ServerMemory, callStep}
-use Rattle.protocol.specs.Taken.{messageCall}
-use Rattle.reason.specs.Reason.{numberOf}
+use Rattle.protocol.specs.Step.{ServerMemory}
 use Rattle.reason.specs.Checks.{Check, checks}
 use Rattle.reason.specs.Why.{whenPassed, why}
 use Rattle.reason.specs.Holds.{HoldsOf}
 use Rattle.reason.specs.declared.Reason.{Reason}
-use Rattle.reason.specs.declared.Reason.the-variants.{Refused}
 
 -- every one of these checks passes
 pub data AllPass : List Check → Type 0 where

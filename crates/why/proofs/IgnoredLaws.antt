@@ -1,14 +1,12 @@
 -- A message that is ignored can be read again.
-use mathlib.Core.Path.{_≡_, refl, sym, ap, subst, _∙_}
-use mathlib.Core.Logic.{_≢_}
+use mathlib.Core.Path.{_≡_, sym, ap, subst, _∙_}
 use mathlib.Core.Bool.{Bool}
 use mathlib.Core.List.{List}
-use Prim.Native.Nat.{ℕ, _≤_, _<_}
+use Prim.Native.Nat.{ℕ, _≤_}
 use native.Mathlib.Omega.{arith}
 use lib.Dec.{ltb}
 use lib.ListN.{length, getD}
 use borrow.Author.Tests.{leb-true, ltb-true, eqb-true}
-use Rattle.field.specs.Choice.{pick}
 use Rattle.field.specs.declared.Fault.{Fault}
 use Rattle.field.proofs.ChoiceLaws.{by-test, pick-true}
 use Rattle.message.specs.Layout.{Entry, keepAliveKind, assignmentKind, updateKind}

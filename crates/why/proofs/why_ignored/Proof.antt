@@ -1,13 +1,12 @@
 -- `why_ignored`: the kind's own reason; the search's answer for the name; the numbers of the update and of its entry.
-use mathlib.Core.Path.{_≡_, sym, ap, _∙_}
-use Prim.Native.Nat.{ℕ, _≤_, _<_}
+use mathlib.Core.Path.{sym, ap, _∙_}
 use native.Mathlib.Nat.{add-sub-cancel-left}
 use native.Mathlib.Omega.{arith}
-use lib.ListN.{length, getD}
+use lib.ListN.{getD}
 use borrow.Author.Tests.{eq-eqb, ne-eqb}
 use Rattle.field.specs.Choice.{pick}
 use Rattle.message.specs.Layout.{Entry, keepAliveKind, assignmentKind, assignmentNameStart}
-use Rattle.table.specs.Table.{TableMemory, tableMemory, defaultEntry, entryAt, entriesOf, maxEntries}
+use Rattle.table.specs.Table.{TableMemory, tableMemory, defaultEntry, entryAt, maxEntries}
 use Rattle.table.proofs.SearchLaws.{found-most}
 use Rattle.table.proofs.TabulateLaws.{entry-get}
 use Rattle.soundness.proofs.ReadableLaws.{sound-named, sound-holds, sound-count}

@@ -1,6 +1,4 @@
 -- `why_number`: the distance is tested against 0 and the half range.
-use mathlib.Core.Path.{_≡_, sym, _∙_}
-use native.Mathlib.Omega.{arith}
 use borrow.Author.Tests.{lt-ltb, le-ltb, eq-eqb, ne-eqb}
 use Rattle.field.specs.Choice.{pick}
 use Rattle.sequence.specs.SequenceNumber.{half, distance}
