@@ -155,8 +155,8 @@ typedef struct {
  *             stored, modulo 65,536: 1 to 32,767; with NT2_WHY_UNDEFINED 32,768
  *   place     with NT2_WHY_REFUSED that of the first byte of the field that failed, counted from 0
  *             at the start of the message: with 7 to 10 as in an answer, and also
- *               NT2_INCOMPLETE     the first field that is not wholly there; a text's length and its
- *                                  bytes are two fields, each element of an array is one
+ *               NT2_INCOMPLETE     the first field that is not wholly there: a text's length and its
+ *                                  bytes are two fields, a Boolean or Double of an array is one
  *               NT2_KIND           the kind, at 0
  *               NT2_ASSIGNMENT_ID  the ID
  *               NT2_UNKNOWN_ID     the ID

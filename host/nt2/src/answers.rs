@@ -239,10 +239,102 @@ impl<'a> Delivery<'a> {
         Delivery { ended, messages, taken, written: &out[..written] }
     }
 
+    /// Messages that were ignored: what each of the others sends has a heading, even if to no one.
+    pub fn ignored(self) -> usize {
+        self.messages - self.sent().count()
+    }
+
     /// What each message that was done sends, in their order.
     pub fn sent(self) -> impl Iterator<Item = Sent<'a>> {
         let sent = |(recipients, bytes)| Sent { bytes, recipients: Recipients(recipients) };
         headed(self.written).map(sent)
+    }
+}
+
+/// Which check decides a client's message. With a refusal, the first in order that fails.
+#[derive(Clone, Copy, Debug, PartialEq, Eq, Hash)]
+pub enum Reason {
+    /// Refused, but never for want of room. The place is the byte of the message at which the field
+    /// that failed starts; 0 where there is none.
+    Refused { refusal: Refusal, place: usize },
+    /// Ignored: a keep alive.
+    KeepAlive,
+    /// Ignored: the entry with this ID has the assignment's name.
+    NameHeld { id: u16 },
+    /// Ignored: the update's number is the stored one.
+    Equal,
+    /// Ignored: the update's number is older than the stored one, by 1 to 32,767.
+    Older { by: u16 },
+    /// Ignored: the update's number and the stored one are 32,768 apart, so neither is greater.
+    Undefined,
+    /// Done: the update's number is greater than the stored one, by 1 to 32,767.
+    Applied { by: u16 },
+    /// Done: a hello of any revision, or a new assignment.
+    Done,
+}
+
+impl Reason {
+    pub(crate) fn of(reason: nt2_sys::Reason) -> Self {
+        use nt2_sys::Reason as Lent;
+        let Lent { reason, number, id, distance, place } = reason;
+        match reason {
+            Lent::KEEP_ALIVE => Reason::KeepAlive,
+            Lent::NAME_HELD => Reason::NameHeld { id },
+            Lent::EQUAL => Reason::Equal,
+            Lent::OLDER => Reason::Older { by: distance },
+            Lent::UNDEFINED => Reason::Undefined,
+            Lent::APPLIED => Reason::Applied { by: distance },
+            Lent::DONE => Reason::Done,
+            _ => Reason::Refused { refusal: refusal(number, Some(Place::Message(place))), place },
+        }
+    }
+
+    /// The number that the message is answered with: 0, 16 or the refusal's.
+    pub fn number(self) -> u8 {
+        match self {
+            Reason::Refused { refusal, .. } => refusal.number(),
+            Reason::Applied { .. } | Reason::Done => DONE,
+            _ => IGNORED,
+        }
+    }
+
+    /// Where the field that failed starts, with the numbers 1 and 4 to 10. An incomplete message has
+    /// here the first field that is not wholly there.
+    pub fn place(self) -> Option<Place> {
+        match (self, self.number()) {
+            (Reason::Refused { place, .. }, INCOMPLETE | KIND..=TOO_LONG) => {
+                Some(Place::Message(place))
+            }
+            _ => None,
+        }
+    }
+}
+
+impl fmt::Display for Reason {
+    fn fmt(&self, f: &mut fmt::Formatter<'_>) -> fmt::Result {
+        match self {
+            Reason::Refused { refusal, .. } => {
+                write!(f, "refused with {}, {refusal}", refusal.number())?;
+                // A refusal that has a place says it.
+                match self.place().filter(|_| refusal.place().is_none()) {
+                    Some(place) => write!(f, ", at {place}"),
+                    None => Ok(()),
+                }
+            }
+            Reason::KeepAlive => f.write_str("ignored, keep alive"),
+            Reason::NameHeld { id } => write!(f, "ignored, entry {id} has this name"),
+            Reason::Equal => f.write_str("ignored, number is the one that is stored"),
+            Reason::Older { by } => {
+                write!(f, "ignored, number is older than the stored one by {by}")
+            }
+            Reason::Undefined => f.write_str(
+                "ignored, number and the stored one are 32,768 apart, so neither is greater",
+            ),
+            Reason::Applied { by } => {
+                write!(f, "applied, number is greater than the stored one by {by}")
+            }
+            Reason::Done => f.write_str("done"),
+        }
     }
 }
 
@@ -367,6 +459,52 @@ mod tests {
             assert_eq!(replay(number), Replay { records: 3, refused: Some(bad) });
             assert_eq!((bad.number(), bad.to_string()), (number, said.into()));
         }
+    }
+
+    #[test]
+    fn reasons() {
+        let lent = |reason| nt2_sys::Reason { reason, number: 6, id: 5, distance: 4, place: 1 };
+        for (code, reason, number, said) in [
+            (
+                0,
+                Reason::Refused { refusal: Refusal::UnknownId, place: 1 },
+                6,
+                "refused with 6, ID is not in the table, at byte 1 of the message",
+            ),
+            (1, Reason::KeepAlive, 16, "ignored, keep alive"),
+            (2, Reason::NameHeld { id: 5 }, 16, "ignored, entry 5 has this name"),
+            (3, Reason::Equal, 16, "ignored, number is the one that is stored"),
+            (4, Reason::Older { by: 4 }, 16, "ignored, number is older than the stored one by 4"),
+            (
+                5,
+                Reason::Undefined,
+                16,
+                "ignored, number and the stored one are 32,768 apart, so neither is greater",
+            ),
+            (
+                6,
+                Reason::Applied { by: 4 },
+                0,
+                "applied, number is greater than the stored one by 4",
+            ),
+            (7, Reason::Done, 0, "done"),
+        ] {
+            assert_eq!(Reason::of(lent(code)), reason);
+            assert_eq!((reason.number(), reason.to_string()), (number, said.into()));
+        }
+    }
+
+    #[test]
+    fn places_of_refused_messages() {
+        for number in 1..=14 {
+            let reason = Reason::of(nt2_sys::Reason { number, place: 3, ..Default::default() });
+            let place = matches!(number, 1 | 4..=10).then_some(Place::Message(3));
+            assert_eq!((reason.number(), reason.place()), (number, place));
+            // It is said once.
+            let says = reason.to_string().matches("at byte 3 of the message").count();
+            assert_eq!(says, usize::from(place.is_some()), "{reason}");
+        }
+        assert_eq!(Reason::Equal.place(), None);
     }
 
     #[test]

@@ -43,6 +43,25 @@
 //! # Ok::<(), nt2::Refusal>(())
 //! ```
 //!
+//! [`ServerTable::why`] says why a message is done, ignored or refused, and changes nothing:
+//!
+//! ```
+//! use nt2::{LONGEST_HELLO_ANSWER, Reason, Refusal, ServerTable, Type};
+//!
+//! let mut out = [0; LONGEST_HELLO_ANSWER];
+//! let mut table = ServerTable::new();
+//! table.create(b"tare", Type::Boolean, &[0], &mut out)?;
+//! table.open(3)?;
+//! table.receive(3, &[0x01, 0x02, 0x00], &mut out)?;
+//! // An update of entry 0, whose number is 1, with the number 0, and one of an entry that there is not.
+//! let why = table.why(3, &[0x11, 0x00, 0x00, 0x00, 0x00, 0x01]);
+//! assert_eq!(why, Reason::Older { by: 1 });
+//! let why = table.why(3, &[0x11, 0x00, 0x01]);
+//! assert_eq!(why, Reason::Refused { refusal: Refusal::UnknownId, place: 1 });
+//! assert_eq!(why.to_string(), "refused with 6, ID is not in the table, at byte 1 of the message");
+//! # Ok::<(), nt2::Refusal>(())
+//! ```
+//!
 //! [`ServerTable::replay`] makes a table of what a line recorder wrote:
 //!
 //! ```
@@ -83,8 +102,8 @@ mod number;
 mod server;
 
 pub use answers::{
-    BadRecord, Copied, Delivery, Ended, Place, Received, Recipients, Refusal, Replay, Scalar, Sent,
-    Written,
+    BadRecord, Copied, Delivery, Ended, Place, Reason, Received, Recipients, Refusal, Replay,
+    Scalar, Sent, Written,
 };
 pub use copy::CopyTable;
 pub use memory::Entry;

@@ -1,6 +1,6 @@
 //! The memory of one table.
 
-use crate::answers::{Refusal, Scalar, is_done};
+use crate::answers::{Reason, Refusal, Scalar, is_done};
 use crate::lent;
 use crate::message::Type;
 use nt2_sys::{ENTRIES, ENTRY_ROOM, Head, LentTable, NAME_ROOM, TABLE_BYTES};
@@ -51,6 +51,11 @@ impl Memory {
             1 => Scalar::Double(scalar.value),
             _ => Scalar::Neither,
         })
+    }
+
+    pub fn why(&self, marks: &[u8], connection: usize, message: &[u8]) -> Reason {
+        let Memory { heads, bytes, count } = self;
+        Reason::of(lent::why_by_reading(heads, bytes, count, marks, connection, message))
     }
 
     pub fn entry(&self, id: u16) -> Option<Entry<'_>> {

@@ -1,7 +1,7 @@
 //! The server half.
 
 use crate::answers::{
-    Delivery, Place, Received, Recipients, Refusal, Replay, Scalar, Sent, Written, is_done,
+    Delivery, Place, Reason, Received, Recipients, Refusal, Replay, Scalar, Sent, Written, is_done,
 };
 use crate::lent;
 use crate::memory::{Entry, Memory};
@@ -97,6 +97,12 @@ impl ServerTable {
     ) -> Delivery<'a> {
         let delivered = lent::deliver(self.memory.lend(), &mut self.marks, connection, input, out);
         Delivery::of(delivered, out)
+    }
+
+    /// Says why [`receive`](Self::receive) would take, ignore or refuse the first message of a client's
+    /// bytes, with an output that has room for its answer. Changes nothing.
+    pub fn why(&self, connection: usize, message: &[u8]) -> Reason {
+        self.memory.why(&self.marks, connection, message)
     }
 
     /// Creates an entry for the plant's own code.

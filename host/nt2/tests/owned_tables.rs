@@ -1,9 +1,10 @@
 //! The build description's example and a copy, by the owned tables.
 
 use nt2::{
-    BadRecord, CONNECTIONS, Copied, CopyTable, DELIVERY_MESSAGES, Delivery, Ended, HEADING,
-    LONGEST_ASSIGNMENT, LONGEST_HELLO_ANSWER, Message, PLANT, Place, RECORD_DATA, Received,
-    Recipients, Refusal, Replay, Scalar, ServerTable, State, Type, Written, decode, encode,
+    BadRecord, CONNECTIONS, Copied, CopyTable, DELIVERY_MESSAGES, Delivery, ENTRIES, Ended,
+    HEADING, LONGEST_ASSIGNMENT, LONGEST_HELLO_ANSWER, Message, PLANT, Place, RECORD_DATA, Reason,
+    Received, Recipients, Refusal, Replay, Scalar, ServerTable, State, Type, Written, decode,
+    encode,
 };
 
 const STREAM: [u8; 26] = [
@@ -52,7 +53,7 @@ fn listing_example_as_a_delivery() {
     let mut table = opened();
     let delivery = table.deliver(0, &STREAM, &mut out);
     assert_eq!((delivery.ended, delivery.messages, delivery.taken), (Ended::Spent, 5, 26));
-    assert_eq!(sent(delivery), EXAMPLE_SENT);
+    assert_eq!((sent(delivery), delivery.ignored()), (EXAMPLE_SENT.to_vec(), 2));
     assert_eq!((table.count(), table.state(0)), (1, Some(State::Greeted)));
 }
 
@@ -113,6 +114,110 @@ fn delivery_of_a_connection_that_is_closed() {
     let other = table.deliver(0, &[0x01, 0x03, 0x00, 0x00], &mut out);
     assert_eq!((other.ended, other.taken), (Ended::Refused(Refusal::State), 3));
     assert_eq!(sent(other), [(1, &[0x02, 0x02, 0x00][..])]);
+}
+
+/// A table with connection 1 open and connection 3 greeted, whose entry 0 is the Boolean "tare" with
+/// the number 5.
+fn with_tare() -> ServerTable {
+    let mut out = [0; LONGEST_HELLO_ANSWER];
+    let mut table = ServerTable::new();
+    table.create(b"tare", Type::Boolean, &[0], &mut out).unwrap();
+    table.open(1).unwrap();
+    table.open(3).unwrap();
+    let messages = b"\x01\x02\0\x11\0\0\0\x05\x01";
+    assert_eq!(table.deliver(3, messages, &mut [0; 100]).ended, Ended::Spent);
+    table
+}
+
+fn assert_same(left: &ServerTable, right: &ServerTable) {
+    assert_eq!(left.count(), right.count());
+    (0..left.count() as u16).for_each(|id| assert_eq!(left.entry(id), right.entry(id)));
+    (0..CONNECTIONS).for_each(|c| assert_eq!(left.state(c), right.state(c)));
+}
+
+/// The reason is this one, asking for it changes nothing, and the real call answers with its number.
+fn assert_why(table: &ServerTable, connection: usize, message: &[u8], reason: Reason) {
+    let mut received = table.clone();
+    assert_eq!(table.why(connection, message), reason, "{message:02X?}");
+    assert_same(table, &received);
+    let number = match received.receive(connection, message, &mut [0; LONGEST_HELLO_ANSWER]) {
+        Ok(Received::Done { .. }) => 0,
+        Ok(Received::Ignored { .. }) => 16,
+        Err(refusal) => refusal.number(),
+    };
+    assert_eq!(number, reason.number(), "{message:02X?}");
+}
+
+/// Messages of connection 3 that are taken, and why they are done or ignored.
+const TAKEN: [(&[u8], Reason); 10] = [
+    (b"\0", Reason::KeepAlive),
+    (b"\x10\0\x04tare\x01\xFF\xFF\0\0\0\0\0\0\0\0\0\0", Reason::NameHeld { id: 0 }),
+    (b"\x10\0\x05gross\0\xFF\xFF\0\0\0", Reason::Done),
+    (b"\x11\0\0\0\x05\0", Reason::Equal),
+    (b"\x11\0\0\0\x04\0", Reason::Older { by: 1 }),
+    (b"\x11\0\0\x80\x06\0", Reason::Older { by: 32_767 }),
+    (b"\x11\0\0\x80\x05\0", Reason::Undefined),
+    (b"\x11\0\0\x80\x04\0", Reason::Applied { by: 32_767 }),
+    // The value that is held; and what stands behind a message is not looked at.
+    (b"\x11\0\0\0\x06\x01", Reason::Applied { by: 1 }),
+    (b"\x11\0\0\0\x06\0\x04", Reason::Applied { by: 1 }),
+];
+
+#[test]
+fn reasons_of_messages_that_are_taken() {
+    let table = with_tare();
+    for (message, reason) in TAKEN {
+        assert_why(&table, 3, message, reason);
+    }
+    // Each revision's hello is done.
+    assert_why(&table, 1, &[0x01, 0x02, 0x00], Reason::Done);
+    assert_why(&table, 1, &[0x01, 0x03, 0x00], Reason::Done);
+    assert_why(&table, 1, &[0x00], Reason::KeepAlive);
+}
+
+/// Messages that are refused, and where. Connection 0 is closed.
+const REFUSED: [(usize, &[u8], Refusal, usize); 17] = [
+    (16, b"\0", Refusal::NoSuchConnection, 0),
+    (0, b"\0", Refusal::State, 0),
+    (1, b"\x11", Refusal::State, 0),
+    (3, b"\x01\x02\0", Refusal::State, 0),
+    (3, b"\x02\x02\0", Refusal::Kind, 0),
+    (3, b"", Refusal::Incomplete, 0),
+    (1, b"\x01\x02", Refusal::Incomplete, 1),
+    (3, b"\x10\0\x02a", Refusal::Incomplete, 3),
+    (3, b"\x10\0\x02ab\0\xFF\xFF\0", Refusal::Incomplete, 8),
+    (3, b"\x11\0\0\0\x06", Refusal::Incomplete, 5),
+    (3, b"\x10\0\x02ab\x12\xFF\xFF\0\0\x02\0\x01c\0\x02d", Refusal::Incomplete, 16),
+    (3, b"\x10\0\x02ab\0\0\0", Refusal::AssignmentId, 6),
+    (3, b"\x11\0\x01", Refusal::UnknownId, 1),
+    (3, b"\x10\0\x02ab\x03", Refusal::Type(Place::Message(5)), 5),
+    (3, b"\x11\0\0\0\x06\x02", Refusal::Boolean(Place::Message(5)), 5),
+    (3, b"\x10\0\x02a\xFF", Refusal::Text(Place::Message(3)), 3),
+    (3, b"\x10\0\x41", Refusal::TooLong(Place::Message(1)), 1),
+];
+
+#[test]
+fn reasons_of_messages_that_are_refused() {
+    let table = with_tare();
+    for (connection, message, refusal, place) in REFUSED {
+        assert_why(&table, connection, message, Reason::Refused { refusal, place });
+    }
+}
+
+#[test]
+fn reasons_with_a_full_table() {
+    let mut table = with_tare();
+    let new = |entry: usize| {
+        let name = format!("{entry:02}");
+        [b"\x10\0\x02", name.as_bytes(), b"\0\xFF\xFF\0\0\x01"].concat()
+    };
+    for entry in 1..ENTRIES {
+        assert_why(&table, 3, &new(entry), Reason::Done);
+        table.receive(3, &new(entry), &mut [0; LONGEST_ASSIGNMENT]).unwrap();
+    }
+    let full = Reason::Refused { refusal: Refusal::Full, place: 0 };
+    assert_why(&table, 3, &new(ENTRIES), full);
+    assert_why(&table, 3, &new(63), Reason::NameHeld { id: 63 });
 }
 
 /// Bytes that came in from a connection, as records.
