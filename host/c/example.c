@@ -1,7 +1,7 @@
 /* Uses every call of nt2.h and checks its answers: the listing of the build description, the same
- * messages as a delivery and as a line record, a client's copy that follows a server, single messages,
- * and the places of faults. Prints the listing, and ends with 1 at the first answer that is not as
- * expected.
+ * messages as a delivery and as a line record, why messages are done, ignored or refused, a client's
+ * copy that follows a server, single messages, and the places of faults. Prints the listing, and ends
+ * with 1 at the first answer that is not as expected.
  *
  * All that is lent is a heap block of its own, exactly as long as it is lent, so that valgrind sees
  * each access beyond it.
@@ -31,6 +31,12 @@ _Static_assert(offsetof(nt2_delivered, messages) == 8, "a delivery's messages");
 _Static_assert(offsetof(nt2_delivered, taken) == 16, "a delivery's bytes taken");
 _Static_assert(offsetof(nt2_delivered, written) == 24, "a delivery's bytes written");
 _Static_assert(offsetof(nt2_delivered, place) == 32, "the place of a delivery's fault");
+
+_Static_assert(sizeof(nt2_reason) == 16, "a reason");
+_Static_assert(offsetof(nt2_reason, number) == 1, "a reason's number");
+_Static_assert(offsetof(nt2_reason, id) == 2, "a reason's ID");
+_Static_assert(offsetof(nt2_reason, distance) == 4, "a reason's distance");
+_Static_assert(offsetof(nt2_reason, place) == 8, "a reason's place");
 
 _Static_assert(sizeof(nt2_replayed) == 16, "what came of a line record");
 _Static_assert(offsetof(nt2_replayed, records) == 8, "a line record's records");
@@ -192,6 +198,13 @@ static nt2_delivered deliver(table t, size_t connection, const void *bytes, size
     return d;
 }
 
+static nt2_reason reason_of(table t, size_t connection, const void *message, size_t length) {
+    block input = new_input(message, length);
+    nt2_reason r = nt2_why(SERVER(t), connection, LENT(input));
+    free_input(input, message);
+    return r;
+}
+
 static bool replays(table t, const void *bytes, size_t length, uint8_t number, size_t records) {
     block record = new_input(bytes, length);
     nt2_replayed r = nt2_replay(SERVER(t), LENT(record));
@@ -346,6 +359,106 @@ static void deliveries(void) {
     block out = {NULL, 0};
     rooms_of_a_delivery(t, &out);
     ends_of_a_delivery(t, &out);
+    free(out.bytes);
+    free_table(t);
+}
+
+/* A message of a connection, and why it is done, ignored or refused: connection 0 is open, connection
+ * 1 greeted, and entry 0 is a Boolean named "a" with the number 2. */
+typedef struct {
+    const char *message;
+    size_t length, connection;
+    nt2_reason reason;
+} reasoned;
+
+#define REFUSED(number, place) {NT2_WHY_REFUSED, number, 0, 0, place}
+#define IGNORED(reason, id, distance) {reason, NT2_IGNORED, id, distance, 0}
+#define DONE(reason, distance) {reason, NT2_DONE, 0, distance, 0}
+
+static const reasoned reasoned_messages[] = {
+    {"\x00", 1, 16, REFUSED(NT2_NO_SUCH_CONNECTION, 0)},
+    {"\x00", 1, 2, REFUSED(NT2_STATE, 0)},
+    {"\x11", 1, 0, REFUSED(NT2_STATE, 0)},
+    {"\x03", 1, 1, REFUSED(NT2_KIND, 0)},
+    {"", 0, 1, REFUSED(NT2_INCOMPLETE, 0)},
+    {"\x10\x00\x02z", 4, 1, REFUSED(NT2_INCOMPLETE, 3)},
+    {"\x10\x00\x02zz\x00\x00\x00", 8, 1, REFUSED(NT2_ASSIGNMENT_ID, 6)},
+    {"\x11\x00\x01", 3, 1, REFUSED(NT2_UNKNOWN_ID, 1)},
+    {"\x10\x00\x02zz\x03", 6, 1, REFUSED(NT2_TYPE, 5)},
+    {"\x11\x00\x00\x00\x03\x02", 6, 1, REFUSED(NT2_NOT_BOOLEAN, 5)},
+    {"\x10\x00\x02z\xFF", 5, 1, REFUSED(NT2_NOT_TEXT, 3)},
+    {"\x10\x00\x41", 3, 1, REFUSED(NT2_TOO_LONG, 1)},
+    {"\x00", 1, 0, IGNORED(NT2_WHY_KEEP_ALIVE, 0, 0)},
+    {"\x10\x00\x01" "a\x00\xFF\xFF\x00\x00\x01", 10, 1, IGNORED(NT2_WHY_NAME_HELD, 0, 0)},
+    {"\x11\x00\x00\x00\x02\x01", 6, 1, IGNORED(NT2_WHY_EQUAL, 0, 0)},
+    {"\x11\x00\x00\xFF\xFF\x01", 6, 1, IGNORED(NT2_WHY_OLDER, 0, 3)},
+    {"\x11\x00\x00\x80\x02\x01", 6, 1, IGNORED(NT2_WHY_UNDEFINED, 0, 32768)},
+    {"\x11\x00\x00\x80\x01\x01", 6, 1, DONE(NT2_WHY_APPLIED, 32767)},
+    {"\x10\x00\x01z\x00\xFF\xFF\x00\x00\x01", 10, 1, DONE(NT2_WHY_DONE, 0)},
+    {"\x01\x02\x00", 3, 0, DONE(NT2_WHY_DONE, 0)},
+};
+
+static bool same_reason(nt2_reason left, nt2_reason right) {
+    return left.reason == right.reason && left.number == right.number && left.id == right.id &&
+           left.distance == right.distance && left.place == right.place;
+}
+
+/* Memory whose contents can be compared. */
+static table filled_table(void) {
+    table t = new_table();
+    memset(t.heads, FILL, NT2_ENTRIES * sizeof(nt2_head));
+    memset(t.bytes, FILL, NT2_TABLE_BYTES);
+    return t;
+}
+
+/* A table as it is now, with memory of its own. */
+static table same_table(table t) {
+    table same = new_table();
+    memcpy(same.heads, t.heads, NT2_ENTRIES * sizeof(nt2_head));
+    memcpy(same.bytes, t.bytes, NT2_TABLE_BYTES);
+    memcpy(same.count, t.count, sizeof(uint16_t));
+    memcpy(same.marks, t.marks, NT2_CONNECTIONS);
+    return same;
+}
+
+/* Asking changes nothing, and the call itself, with room for any answer, has the same number. */
+static void reason_is(table t, const reasoned *m, block *out) {
+    table same = same_table(t);
+    CHECK(same_reason(reason_of(t, m->connection, m->message, m->length), m->reason));
+    CHECK(memcmp(t.heads, same.heads, NT2_ENTRIES * sizeof(nt2_head)) == 0);
+    CHECK(memcmp(t.bytes, same.bytes, NT2_TABLE_BYTES) == 0 && *t.count == *same.count);
+    CHECK(memcmp(t.marks, same.marks, NT2_CONNECTIONS) == 0);
+    nt2_answer a = receive(same, m->connection, m->message, m->length, out,
+                           NT2_LONGEST_HELLO_ANSWER);
+    CHECK(a.number == m->reason.number);
+    free_table(same);
+}
+
+/* Entries 1 to 63 have a name of one byte, their ID. */
+static void reasons_with_a_full_table(table t, block *out) {
+    for (char id = 1; id < NT2_ENTRIES; id++)
+        CHECK(create(t, &id, 1, NT2_BOOLEAN, "\x01", 1, out, 10).number == NT2_DONE);
+    static const reasoned held = {"\x10\x00\x01\x3F\x00\xFF\xFF\x00\x00\x01", 10, 1,
+                                  IGNORED(NT2_WHY_NAME_HELD, 63, 0)};
+    static const reasoned new = {"\x10\x00\x01\x40\x00\xFF\xFF\x00\x00\x01", 10, 1,
+                                 REFUSED(NT2_FULL, 0)};
+    reason_is(t, &held, out);
+    reason_is(t, &new, out);
+}
+
+static void reasons(void) {
+    table t = filled_table();
+    block out = {NULL, 0};
+    open_fresh(t);
+    CHECK(nt2_open(SERVER(t), 1).number == NT2_DONE);
+    nt2_delivered d = deliver(t, 1, stream, sizeof stream, &out, sizeof stream_written);
+    CHECK(delivers(d, NT2_ENDED_SPENT, 5, sizeof stream, sizeof stream_written));
+    for (size_t i = 0; i < sizeof reasoned_messages / sizeof *reasoned_messages; i++)
+        reason_is(t, &reasoned_messages[i], &out);
+    reasons_with_a_full_table(t, &out);
+    t.heads[0].type_code = 3;
+    const reasoned unsound = {"", 0, 16, REFUSED(NT2_UNSOUND, 0)};
+    reason_is(t, &unsound, &out);
     free(out.bytes);
     free_table(t);
 }
@@ -635,6 +748,7 @@ static void places_of_faults(void) {
 int main(void) {
     listing();
     deliveries();
+    reasons();
     line_records();
     refused_line_records();
     server_and_copy();
