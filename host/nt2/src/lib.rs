@@ -112,4 +112,4 @@ pub use nt2_sys::{
     CONNECTIONS, DELIVERY_MESSAGES, ENTRIES, HEADING, LONGEST_ASSIGNMENT, LONGEST_HELLO_ANSWER,
     LONGEST_UPDATE, NAME_ROOM, PLANT, RECORD_DATA, VALUE_ROOM,
 };
-pub use server::{ServerTable, State};
+pub use server::{ServerTable, Standing, State};

@@ -12,6 +12,13 @@ pub(crate) struct Memory {
     count: u16,
 }
 
+/// The count of a table's entries, and their sequence numbers.
+#[derive(Clone, Copy)]
+pub(crate) struct Numbers {
+    count: u16,
+    of_entries: [u16; ENTRIES],
+}
+
 /// An entry of a table.
 #[derive(Clone, Copy, Debug, PartialEq, Eq)]
 pub struct Entry<'a> {
@@ -41,6 +48,24 @@ impl Memory {
     /// The ID that the next new entry has.
     pub fn next_id(&self) -> u16 {
         self.count
+    }
+
+    pub fn numbers(&self) -> Numbers {
+        let mut numbers = Numbers { count: self.count, of_entries: [0; ENTRIES] };
+        for (number, head) in numbers.of_entries.iter_mut().zip(&self.heads) {
+            *number = head.number;
+        }
+        numbers
+    }
+
+    /// A copy that has these numbers.
+    pub fn with_numbers(&self, numbers: &Numbers) -> Self {
+        let mut memory = self.clone();
+        memory.count = numbers.count;
+        for (head, number) in memory.heads.iter_mut().zip(numbers.of_entries) {
+            head.number = number;
+        }
+        memory
     }
 
     pub fn read(&self, id: u16) -> Result<Scalar, Refusal> {

@@ -4,7 +4,7 @@ use crate::answers::{
     Delivery, Place, Reason, Received, Recipients, Refusal, Replay, Scalar, Sent, Written, is_done,
 };
 use crate::lent;
-use crate::memory::{Entry, Memory};
+use crate::memory::{Entry, Memory, Numbers};
 use crate::message::Type;
 use crate::number::DONE;
 use nt2_sys::{Answer, CONNECTIONS};
@@ -21,6 +21,15 @@ pub enum State {
 #[derive(Clone)]
 pub struct ServerTable {
     memory: Memory,
+    marks: [u8; CONNECTIONS],
+}
+
+/// What a client's messages change in a table, but for values: how many entries there are, their
+/// sequence numbers and the connections' states. An entry's name and type stay, and no stored value
+/// plays a part in why a message is done, ignored or refused.
+#[derive(Clone, Copy)]
+pub struct Standing {
+    numbers: Numbers,
     marks: [u8; CONNECTIONS],
 }
 
@@ -103,6 +112,18 @@ impl ServerTable {
     /// bytes, with an output that has room for its answer. Changes nothing.
     pub fn why(&self, connection: usize, message: &[u8]) -> Reason {
         self.memory.why(&self.marks, connection, message)
+    }
+
+    /// How the table stands now. This costs far less than a copy of the table.
+    pub fn standing(&self) -> Standing {
+        Standing { numbers: self.memory.numbers(), marks: self.marks }
+    }
+
+    /// A copy of the table as it stood earlier, though not before its last fresh start, with the values
+    /// of now. [`why`](Self::why) answers there as it did then, and goes on to do so behind the messages
+    /// that were received since.
+    pub fn back_to(&self, standing: &Standing) -> Self {
+        ServerTable { memory: self.memory.with_numbers(&standing.numbers), marks: standing.marks }
     }
 
     /// Creates an entry for the plant's own code.

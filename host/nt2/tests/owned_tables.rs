@@ -220,6 +220,39 @@ fn reasons_with_a_full_table() {
     assert_why(&table, 3, &new(63), Reason::NameHeld { id: 63 });
 }
 
+/// A table as it stood before messages that made an entry and changed a number, a value's length and a
+/// connection's state: it has the reasons of then, before each of the messages.
+#[test]
+fn reasons_of_a_table_as_it_stood() {
+    let mut out = [0; HEADING + LONGEST_HELLO_ANSWER];
+    let mut table = with_tare();
+    table.create(b"lots", Type::StringArray, b"\x01\0\x01a", &mut out).unwrap();
+    let (mut copy, standing) = (table.clone(), table.standing());
+    let messages = [
+        (3, &b"\x11\0\x01\0\x02\0"[..]),
+        (1, b"\x01\x02\0"),
+        (1, b"\x11\0\0\0\x07\x01"),
+        (1, b"\x10\0\x05gross\0\xFF\xFF\0\0\0"),
+        (3, b"\x11\0\x01\0\x05\x02\0\x02bc\0\x01d"),
+        (3, b"\x11\0\x02\x80\x01\x01"),
+    ];
+    for (connection, message) in messages {
+        table.receive(connection, message, &mut out).unwrap();
+    }
+    let mut stood = table.back_to(&standing);
+    assert_eq!((stood.count(), table.count()), (2, 3));
+    for (connection, message) in messages {
+        let asked =
+            messages.map(|(_, asked)| asked).into_iter().chain(TAKEN.map(|(asked, _)| asked));
+        for (asked, connection) in asked.flat_map(|asked| [0, 1, 3].map(|c| (asked, c))) {
+            assert_eq!(stood.why(connection, asked), copy.why(connection, asked));
+        }
+        stood.receive(connection, message, &mut out).unwrap();
+        copy.receive(connection, message, &mut out).unwrap();
+    }
+    assert_same(&stood, &table);
+}
+
 /// Bytes that came in from a connection, as records.
 fn came_in(connection: usize, bytes: &[u8]) -> Vec<u8> {
     let record = |bytes: &[u8]| [&[63 + bytes.len() as u8, connection as u8], bytes].concat();

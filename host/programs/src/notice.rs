@@ -1,6 +1,7 @@
 //! What a server says of its connections, one line each.
 
-use nt2::{CONNECTIONS, Refusal};
+use crate::value::quoted;
+use nt2::{CONNECTIONS, Place, Refusal};
 use std::fmt;
 use std::io;
 use std::net::SocketAddr;
@@ -12,9 +13,17 @@ pub enum Notice {
         connection: usize,
         peer: SocketAddr,
     },
+    /// A message was refused, with the place of the field that failed; or else an opening or leaving.
     Refused {
         connection: usize,
         refusal: Refusal,
+        place: Option<Place>,
+    },
+    /// An assignment of this name, or an update of the entry that has it, was ignored.
+    Ignored {
+        connection: usize,
+        name: Vec<u8>,
+        why: Ignored,
     },
     Left {
         connection: usize,
@@ -30,6 +39,19 @@ pub enum Notice {
     Dropped {
         count: u64,
     },
+}
+
+/// Why a message was ignored. A keep alive always is, so it is not among these.
+#[derive(Clone, Copy, Debug, PartialEq, Eq)]
+pub enum Ignored {
+    /// An assignment: the entry with this ID has its name.
+    NameHeld { id: u16 },
+    /// An update with the number that is stored.
+    Equal { number: u16 },
+    /// An update whose number is older than the stored one.
+    Older { number: u16, stored: u16, by: u16 },
+    /// An update whose number is half the range away from the stored one.
+    Undefined { number: u16, stored: u16 },
 }
 
 /// Why a connection was closed.
@@ -54,8 +76,17 @@ impl fmt::Display for Notice {
             Notice::Opened { connection, peer } => {
                 write!(f, "connection {connection}: opened by {peer}")
             }
-            Notice::Refused { connection, refusal } => {
-                write!(f, "connection {connection}: refused with {}, {refusal}", refusal.number())
+            Notice::Refused { connection, refusal, place } => {
+                write!(f, "connection {connection}: refused with {}, {refusal}", refusal.number())?;
+                // A refusal that has a place says it.
+                match place.filter(|_| refusal.place().is_none()) {
+                    Some(place) => write!(f, ", at {place}"),
+                    None => Ok(()),
+                }
+            }
+            Notice::Ignored { connection, name, why } => {
+                let (message, name) = (why.message(), quoted(name));
+                write!(f, "connection {connection}: {message} of {name} ignored: {why}")
             }
             Notice::Left { connection, reason } => {
                 write!(f, "connection {connection}: left, {reason}")
@@ -65,6 +96,34 @@ impl fmt::Display for Notice {
             }
             Notice::NotAccepted { error } => write!(f, "a connection was not accepted: {error}"),
             Notice::Dropped { count } => write!(f, "notices dropped: {count}"),
+        }
+    }
+}
+
+impl Ignored {
+    /// What was ignored.
+    fn message(self) -> &'static str {
+        match self {
+            Ignored::NameHeld { .. } => "assignment",
+            _ => "update",
+        }
+    }
+}
+
+impl fmt::Display for Ignored {
+    fn fmt(&self, f: &mut fmt::Formatter<'_>) -> fmt::Result {
+        match self {
+            Ignored::NameHeld { id } => write!(f, "entry {id} has this name"),
+            Ignored::Equal { number } => write!(f, "number {number} is the one that is stored"),
+            Ignored::Older { number, stored, by } => {
+                write!(f, "number {number} is older than {stored} by {by}")
+            }
+            Ignored::Undefined { number, stored } => {
+                write!(
+                    f,
+                    "number {number} and the stored {stored} are 32,768 apart, so neither is greater"
+                )
+            }
         }
     }
 }

@@ -1,7 +1,9 @@
 //! The server: one thread owns the table and makes every call, so no two calls run at a time and
 //! the bytes for a client go out in the order of the calls. Each connection has a reader, which
-//! feeds the owner, and a writer with bytes of its own that wait. Notices have a thread too.
+//! feeds the owner, and a writer with bytes of its own that wait. Notices have a thread too, which
+//! finds out on copies of the table why messages were ignored.
 
+mod explain;
 mod link;
 mod notices;
 mod owner;

@@ -1,5 +1,6 @@
 //! Notices on their way out.
 
+use super::explain::IgnoredMessages;
 use super::spawn;
 use crate::notice::Notice;
 use std::io;
@@ -7,13 +8,20 @@ use std::sync::Arc;
 use std::sync::atomic::{AtomicU64, Ordering};
 use std::sync::mpsc::{Receiver, SyncSender, TryRecvError, sync_channel};
 
-/// At most so many notices wait, beside the one that is being handed over.
+/// At most so many notices wait, beside the one that is being handed over. Those of the messages that
+/// a delivery ignored count as one.
 pub const MOST_NOTICES: usize = 64;
 
-/// Notices that a thread of their own hands over, so that whoever does not take them stops no call.
+/// Notices that a thread of their own hands over, so that whoever does not take them stops no call. It
+/// finds out why messages were ignored, too.
 pub struct Notices {
-    waiting: SyncSender<Notice>,
+    waiting: SyncSender<Waiting>,
     dropped: Arc<AtomicU64>,
+}
+
+enum Waiting {
+    Notice(Notice),
+    Ignored(IgnoredMessages),
 }
 
 impl Notices {
@@ -27,14 +35,33 @@ impl Notices {
 
     /// Lets a notice wait. Where too many do, it is dropped and counted.
     pub fn add(&self, notice: Notice) {
-        if self.waiting.try_send(notice).is_err() {
-            self.dropped.fetch_add(1, Ordering::Relaxed);
+        self.push(Waiting::Notice(notice), 1);
+    }
+
+    /// Lets the notices of a delivery's ignored messages wait, or drops and counts them all.
+    pub fn add_ignored(&self, messages: IgnoredMessages) {
+        let count = messages.count() as u64;
+        self.push(Waiting::Ignored(messages), count);
+    }
+
+    fn push(&self, waiting: Waiting, count: u64) {
+        if self.waiting.try_send(waiting).is_err() {
+            self.dropped.fetch_add(count, Ordering::Relaxed);
+        }
+    }
+}
+
+impl Waiting {
+    fn hand_over(self, notify: &mut impl FnMut(&Notice)) {
+        match self {
+            Waiting::Notice(notice) => notify(&notice),
+            Waiting::Ignored(messages) => messages.notices().iter().for_each(notify),
         }
     }
 }
 
 /// Hands over each notice, and how many were dropped once none waits.
-fn hand_over(waiting: &Receiver<Notice>, dropped: &AtomicU64, mut notify: impl FnMut(&Notice)) {
+fn hand_over(waiting: &Receiver<Waiting>, dropped: &AtomicU64, mut notify: impl FnMut(&Notice)) {
     loop {
         let next = waiting.try_recv();
         if next.is_err() {
@@ -44,10 +71,10 @@ fn hand_over(waiting: &Receiver<Notice>, dropped: &AtomicU64, mut notify: impl F
             }
         }
         match next {
-            Ok(notice) => notify(&notice),
+            Ok(waiting) => waiting.hand_over(&mut notify),
             Err(TryRecvError::Disconnected) => return,
             Err(TryRecvError::Empty) => match waiting.recv() {
-                Ok(notice) => notify(&notice),
+                Ok(waiting) => waiting.hand_over(&mut notify),
                 Err(_) => return,
             },
         }

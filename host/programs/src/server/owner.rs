@@ -1,11 +1,13 @@
 //! The owner of the table.
 
+use super::explain::IgnoredMessages;
 use super::link::Link;
 use super::notices::Notices;
 use super::{Settings, spawn};
 use crate::notice::{Notice, Reason};
 use nt2::{
-    CONNECTIONS, Delivery, Ended, HEADING, LONGEST_HELLO_ANSWER, Refusal, Sent, ServerTable, State,
+    CONNECTIONS, Delivery, Ended, HEADING, LONGEST_HELLO_ANSWER, Place, Refusal, Sent, ServerTable,
+    State,
 };
 use std::collections::VecDeque;
 use std::io;
@@ -96,7 +98,7 @@ impl Owner {
         self.clients[connection] = Some(Client { key, link, held: Vec::new() });
         self.notices.add(Notice::Opened { connection, peer });
         if let Err(refusal) = self.table.open(connection) {
-            self.refuse(connection, refusal);
+            self.refuse(connection, refusal, None);
         }
     }
 
@@ -140,11 +142,7 @@ impl Owner {
     fn take_messages(&mut self, connection: usize, bytes: &[u8]) -> usize {
         let mut all = 0;
         loop {
-            let delivery = self.table.deliver(connection, &bytes[all..], &mut self.output);
-            let (ended, taken) = (delivery.ended, delivery.taken);
-            for not_reading in send(delivery, &self.clients) {
-                self.close(not_reading, Reason::NotReading);
-            }
+            let (ended, taken) = self.deliver(connection, &bytes[all..]);
             all += taken;
             // By a hello for another revision; a client that does not read is gone already.
             if self.table.state(connection) == Some(State::Closed) {
@@ -157,15 +155,33 @@ impl Owner {
                 Ended::Refused(Refusal::Room) if taken > 0 => {}
                 Ended::Spent | Ended::Refused(Refusal::Incomplete) => return all,
                 Ended::Refused(refusal) => {
-                    self.refuse(connection, refusal);
+                    // A refused message has changed nothing, so the table is as it was before it.
+                    let place = self.table.why(connection, &bytes[all..]).place();
+                    self.refuse(connection, refusal, place);
                     return all;
                 }
             }
         }
     }
 
-    fn refuse(&mut self, connection: usize, refusal: Refusal) {
-        self.notices.add(Notice::Refused { connection, refusal });
+    /// Makes one delivery, sends what it has for the clients and says what was ignored. Answers how it
+    /// ended, and how many bytes were taken.
+    fn deliver(&mut self, connection: usize, input: &[u8]) -> (Ended, usize) {
+        let before = self.table.standing();
+        let delivery = self.table.deliver(connection, input, &mut self.output);
+        let (ended, taken) = (delivery.ended, delivery.taken);
+        let ignored = IgnoredMessages::of(connection, delivery, input, &before, &self.table);
+        if let Some(messages) = ignored {
+            self.notices.add_ignored(messages);
+        }
+        for not_reading in send(delivery, &self.clients) {
+            self.close(not_reading, Reason::NotReading);
+        }
+        (ended, taken)
+    }
+
+    fn refuse(&mut self, connection: usize, refusal: Refusal, place: Option<Place>) {
+        self.notices.add(Notice::Refused { connection, refusal, place });
         self.close(connection, Reason::Refused);
     }
 
@@ -188,7 +204,7 @@ impl Owner {
         if self.table.state(connection) != Some(State::Closed)
             && let Err(refusal) = self.table.leave(connection)
         {
-            self.notices.add(Notice::Refused { connection, refusal });
+            self.notices.add(Notice::Refused { connection, refusal, place: None });
         }
         self.notices.add(Notice::Left { connection, reason });
     }

@@ -201,8 +201,22 @@ fn notice_says_where_the_fault_is() {
             "9, text is not UTF-8, at byte 15 of the message",
         ),
         (b"\x10\x00\x41", "10, name or value is too long, at byte 1 of the message"),
-        (&[UNKNOWN_KIND], "4, message kind is unknown, or not for this end"),
-        (b"\x11\x00\x01", "6, ID is not in the table"),
+        (
+            &[UNKNOWN_KIND],
+            "4, message kind is unknown, or not for this end, at byte 0 of the message",
+        ),
+        (
+            b"\x10\x00\x02ab\x00\x00\x07",
+            "5, assignment ID is not the one allowed, at byte 6 of the message",
+        ),
+        (b"\x11\x00\x01", "6, ID is not in the table, at byte 1 of the message"),
+        // Behind a message that is taken the place counts from its own message too.
+        (
+            b"\x00\x11\0\0\0\x02\x01\x11\x00\x01",
+            "6, ID is not in the table, at byte 1 of the message",
+        ),
+        // The connection's state has no place.
+        (b"\x01\x02\x00", "3, connection state does not allow this"),
     ] {
         let mut client = server.connected(1);
         client.greet();
@@ -210,6 +224,93 @@ fn notice_says_where_the_fault_is() {
         assert_eq!(server.next_notice(), format!("connection 1: refused with {refused}"));
         assert_eq!(server.next_notice(), "connection 1: left, a message was refused");
     }
+}
+
+#[test]
+fn full_table_has_no_place() {
+    let server = TestServer::start();
+    let mut client = server.connected(0);
+    client.greet();
+    for entry in 0..ENTRIES {
+        client.create(&entry.to_string(), Type::Boolean, &[1]);
+    }
+    // A name that is held is ignored even so.
+    client.send(&new_entry("63", Type::Double, &[0; 8]));
+    client.send(&new_entry("64", Type::Boolean, &[1]));
+    let ignored = r#"connection 0: assignment of "63" ignored: entry 63 has this name"#;
+    assert_eq!(server.next_notice(), ignored);
+    assert_eq!(server.next_notice(), "connection 0: refused with 11, table is full");
+}
+
+#[test]
+fn notice_says_why_a_message_is_ignored() {
+    let server = TestServer::start();
+    let mut client = server.connected(0);
+    client.greet();
+    let parents = client.create("lot/7/parents", Type::StringArray, PARENTS);
+    let tare = client.create("say \"tare\"\n", Type::Boolean, &[0]);
+    client.send(&boolean_update(tare, 5, &[1]));
+    let old =
+        Message::Update { value_type: Type::StringArray, id: parents, number: 0, value: PARENTS };
+    let held = new_entry("lot/7/parents", Type::Boolean, &[1]);
+    let update_of_tare = r#"update of "say \"tare\"\n""#;
+    for (message, ignored, why) in [
+        (held, r#"assignment of "lot/7/parents""#, "entry 0 has this name"),
+        (old, r#"update of "lot/7/parents""#, "number 0 is older than 1 by 1"),
+        (boolean_update(tare, 5, &[0]), update_of_tare, "number 5 is the one that is stored"),
+        (boolean_update(tare, 4, &[0]), update_of_tare, "number 4 is older than 5 by 1"),
+        (
+            boolean_update(tare, 32_774, &[0]),
+            update_of_tare,
+            "number 32774 is older than 5 by 32767",
+        ),
+        (
+            boolean_update(tare, 32_773, &[0]),
+            update_of_tare,
+            "number 32773 and the stored 5 are 32,768 apart, so neither is greater",
+        ),
+    ] {
+        client.send(&message);
+        assert_eq!(server.next_notice(), format!("connection 0: {ignored} ignored: {why}"));
+    }
+    assert_eq!(server.greeted().copy.entry(tare).unwrap().number, 5);
+}
+
+#[test]
+fn notice_of_an_ignored_message_is_that_of_its_moment() {
+    let server = TestServer::start();
+    let mut client = server.connected(0);
+    client.greet();
+    let id = client.create("tare", Type::Boolean, &[0]);
+    // Behind each update one with the number before, which is ignored, and at last a fault.
+    let end = 2 + 2 * DELIVERY_MESSAGES as u16;
+    let update_and_older =
+        |number| [boolean_updates(id, number..number + 1), boolean_updates(id, number - 1..number)];
+    let mut stream: Vec<u8> = (2..end).flat_map(update_and_older).flatten().collect();
+    stream.push(UNKNOWN_KIND);
+    client.send_bytes(&stream);
+    for stored in 2..end {
+        let why = format!("number {} is older than {stored} by 1", stored - 1);
+        let ignored = format!("connection 0: update of \"tare\" ignored: {why}");
+        assert_eq!(server.next_notice(), ignored);
+    }
+    server.expect("connection 0: refused with 4");
+    assert_eq!(server.greeted().copy.entry(id).unwrap().number, end - 1);
+}
+
+#[test]
+fn keep_alive_is_not_spoken_of() {
+    let server = TestServer::start();
+    let mut client = server.connected(0);
+    client.send_bytes(&[KEEP_ALIVE]);
+    client.greet();
+    let id = client.create("tare", Type::Boolean, &[0]);
+    client.send_bytes(&[KEEP_ALIVE; 3 * DELIVERY_MESSAGES]);
+    client.send_bytes(&[&[KEEP_ALIVE; 2][..], &boolean_updates(id, 1..3), &[KEEP_ALIVE]].concat());
+    let ignored = r#"connection 0: update of "tare" ignored: number 1 is the one that is stored"#;
+    assert_eq!(server.next_notice(), ignored);
+    client.finish();
+    assert_eq!(server.next_notice(), "connection 0: left, end of the stream");
 }
 
 #[test]
@@ -336,6 +437,18 @@ fn client_that_does_not_read_is_dropped() {
     assert_same(&server.greeted().copy, &reader.copy);
 }
 
+/// How many notices come until one says how many were dropped, and how many that were.
+fn taken_and_dropped(server: &TestServer) -> (usize, usize) {
+    let mut taken = 0;
+    loop {
+        let notice = server.next_notice();
+        match notice.strip_prefix("notices dropped: ") {
+            Some(count) => return (taken, count.parse().unwrap()),
+            None => taken += 1,
+        }
+    }
+}
+
 #[test]
 fn notices_that_are_not_taken_stop_no_call() {
     // No notice is taken before the sender is dropped.
@@ -351,17 +464,35 @@ fn notices_that_are_not_taken_stop_no_call() {
     let mut last = server.greeted();
     assert_eq!(last.create("tare", Type::Boolean, &[1]), 0);
     drop(not_taking);
-    let mut taken = 0;
-    let dropped = loop {
-        let notice = server.next_notice();
-        match notice.strip_prefix("notices dropped: ") {
-            Some(count) => break count.parse::<usize>().unwrap(),
-            None => taken += 1,
-        }
-    };
+    let (taken, dropped) = taken_and_dropped(&server);
     // Each client was opened, and all but the last one have left.
     assert_eq!(taken + dropped, 2 * MOST_NOTICES + 1);
     server.connected(1);
+}
+
+/// Messages that are ignored, in one delivery.
+const IGNORED: usize = 10;
+
+#[test]
+fn notices_of_ignored_messages_are_dropped_and_counted() {
+    let (not_taking, blocked) = channel::<()>();
+    let server = TestServer::start_with(Settings::default(), move || {
+        assert!(blocked.recv().is_err());
+    });
+    let (mut writer, mut reader) = (server.greeted(), server.greeted());
+    let id = writer.create("tare", Type::Boolean, &[0]);
+    reader.expect(id, 1);
+    let deliveries = 2 * MOST_NOTICES;
+    let ignored = boolean_updates(id, 1..2).repeat(IGNORED);
+    for number in (2..).take(deliveries) {
+        let applied = boolean_updates(id, number..number + 1);
+        writer.send_bytes(&[&[KEEP_ALIVE], &ignored[..], &applied].concat());
+        reader.expect(id, number);
+    }
+    drop(not_taking);
+    let (taken, dropped) = taken_and_dropped(&server);
+    // Two of them say that the clients were opened.
+    assert_eq!(taken + dropped, 2 + deliveries * IGNORED);
 }
 
 #[test]
