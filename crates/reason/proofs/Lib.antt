@@ -4,3 +4,4 @@ pub mod ExplainLaws
 pub mod AnsweredLaws
 pub mod HoldsLaws
 pub mod CutLaws
+pub mod ValuesLaws

@@ -6,3 +6,4 @@ pub mod Holds
 pub mod First
 pub mod Answered
 pub mod Cut
+pub mod Values
