@@ -5,3 +5,4 @@ pub mod AnsweredLaws
 pub mod HoldsLaws
 pub mod CutLaws
 pub mod ValuesLaws
+pub mod Computed
