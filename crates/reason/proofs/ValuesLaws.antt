@@ -1,10 +1,9 @@
 -- The checks look at names, types and numbers of entries, and at no value.
-use mathlib.Core.Path.{_≡_, refl, ap, _∙_}
+use mathlib.Core.Path.{_≡_, refl}
 use mathlib.Core.List.{List, [], _∷_}
 use Prim.Native.Nat.{ℕ, suc}
 use native.Mathlib.Omega.{arith}
 use lib.ListN.{length, getD}
-use Rattle.field.specs.Choice.{pick}
 use Rattle.message.specs.Layout.{Entry}
 use Rattle.message.specs.Reader.{nameIn}
 use Rattle.table.specs.Names.{holder, nameHeld}
@@ -12,7 +11,7 @@ use Rattle.table.specs.Table.{defaultEntry, entriesOf}
 use Rattle.places.specs.MessageFails.{nameLengthIn, updateIdIn}
 use Rattle.reason.specs.Checks.{assignmentChecks, updateChecks, behindKind, checks}
 use Rattle.reason.specs.Why.{whenPassed, why}
-use Rattle.reason.specs.Values.{SameButValues, ValuesNotLookedAt}
+use Rattle.reason.specs.Values.{ValuesNotLookedAt}
 
 holder-same : (name : List ℕ) (xs ys : List Entry) → length ys ≡ length xs → ((id : ℕ) → getD ys id defaultEntry .name ≡ getD xs id defaultEntry .name)
     → holder name ys ≡ holder name xs
