@@ -20,10 +20,10 @@ use Rattle.reason.specs.Why.{firstFailing, whenPassed, why}
 use Rattle.reason.specs.declared.Reason.{Reason}
 use Rattle.reason.specs.declared.Reason.the-variants.{KeepAlive, NameHeld, Equal, Older, Undefined, Applied, Done}
 
--- ---- memory for two entries: connection 0 is greeted, 1 and 15 are open, the others closed
+-- ---- memory for two entries: connection 0 is greeted, 1 and 15 are open, the others closed; a mark more is lent
 
 abbrev marked : TableMemory → ServerMemory
-marked table = record { table = table; marks = 2 ∷ 1 ∷ (replicate 13 0 ++ (1 ∷ [])) }
+marked table = record { table = table; marks = 2 ∷ 1 ∷ (replicate 13 0 ++ (1 ∷ 2 ∷ [])) }
 
 abbrev none : TableMemory
 none = record { heads = replicate 8 7; bytes = replicate 640 9; count = 0 }

@@ -3,38 +3,33 @@ use mathlib.Core.Path.{_≡_, refl, sym, ap, _∙_}
 use mathlib.Core.Logic.{_≢_}
 use mathlib.Core.Bool.{Bool, true, false, false≢true, not, _||_}
 use mathlib.Core.List.{List, [], _∷_, _++_}
-use Prim.Native.Nat.{ℕ, zero, suc, _+_, _-_, _≤_, _<_}
+use Prim.Native.Nat.{ℕ, zero, suc, _+_, _-_, _≤_}
 use native.Mathlib.Omega.{arith}
 use lib.Dec.{leb, ltb, eqb}
 use lib.ListN.{length, take, drop, getD, length-take, take-append-drop}
 use lib.Seq.{take-append-seam, take-length}
 use borrow.Author.Tests.{leb-true, le-leb, eqb-true, eqb-false}
 use Rattle.field.specs.Choice.{pick}
-use Rattle.field.specs.Place.{TellsPlace}
 use Rattle.field.proofs.OctetsLaws.{decode-at, same-length, same-getD, same-front, same-rest}
 use Rattle.sequence.specs.SequenceNumber.{distance}
 use Rattle.utf8.specs.Utf8.{isUtf8}
-use Rattle.text.specs.Fails.{TextFailsAt}
 use Rattle.value.specs.Value.{knownType}
-use Rattle.value.specs.Fails.{ValueFailsAt}
 use Rattle.message.specs.Layout.{Entry}
 use Rattle.message.specs.Reader.{nameIn, Bytes}
 use Rattle.table.specs.Names.{holder, nameHeld}
 use Rattle.table.specs.Table.{defaultEntry, entriesOf}
-use Rattle.places.specs.MessageFails.{Ids, nameLengthIn, updateIdIn, AssignmentFailsAt, UpdateFailsAt, MessageFailsAt}
-use Rattle.places.proofs.MessageFailsLaws.{place-in-message}
+use Rattle.places.specs.MessageFails.{nameLengthIn, updateIdIn}
 use Rattle.protocol.specs.Judge.{newId}
 use Rattle.protocol.specs.Step.{ServerMemory}
 use Rattle.reason.specs.Reason.{numberOf, refusedAt}
 use Rattle.reason.specs.Checks.{Check, there, obeys, numberIn, storedIn, receivedIn, numberChecks, textSize, textChecks, elementChecks, elementSize, elementsChecks, arrayChecks, valueChecks, helloChecks, assignmentChecks, updateChecks, fromClient, behindKind, checks}
 use Rattle.reason.specs.Why.{firstFailing, whenPassed, why}
-use Rattle.reason.specs.Holds.{HoldsOf}
+use Rattle.reason.specs.Answered.{GivenIn}
 use Rattle.reason.specs.Cut.{BehindNotLookedAt, OfField, CutIncomplete}
 use Rattle.reason.specs.declared.Reason.{Reason}
-use Rattle.reason.specs.declared.Reason.the-variants.{Refused, KeepAlive, NameHeld, Equal, Older, Undefined, Applied, Done}
+use Rattle.reason.specs.declared.Reason.the-variants.{Refused, NameHeld, Applied, Done}
 use Rattle.reason.proofs.FieldLaws.{failing-both}
-use Rattle.reason.proofs.AnsweredLaws.{call-gives}
-use Rattle.reason.proofs.HoldsLaws.{reason-holds}
+use Rattle.reason.proofs.NumbersLaws.{Told, why-told, any-output}
 
 -- what is said of a message, and of one that goes on behind it
 data Stable : Reason → Reason → Type 0 where
@@ -218,78 +213,6 @@ behind-not-looked-at limit mem c m rest other = go (why-stable m (m ++ rest) (ta
 
 -- ---- cut before the field that is named
 
--- with 4 to 10 the place is that of a byte of the message
-Within : List ℕ → Reason → Type 0
-Within m (Refused fault) = 4 ≤ fault .number → fault .number ≤ 10 → fault .place < length m
-Within m KeepAlive = Unit {0}
-Within m (NameHeld id) = Unit {0}
-Within m Equal = Unit {0}
-Within m (Older d) = Unit {0}
-Within m Undefined = Unit {0}
-Within m (Applied d) = Unit {0}
-Within m Done = Unit {0}
-
--- of a text or value these are 7 to 10
-text-tells : (maxSize sizeSoFar : ℕ) (s : List ℕ) (number place : ℕ) → TextFailsAt maxSize sizeSoFar s number place → 4 ≤ number → number ≤ 10 → TellsPlace number
-text-tells maxSize sizeSoFar s number place (TextFailsAt.long-text l h) low high = record { above = omega arith; below = high }
-text-tells maxSize sizeSoFar s number place (TextFailsAt.not-text l h) low high = record { above = omega arith; below = high }
-text-tells maxSize sizeSoFar s number place (TextFailsAt.cut-prefix l) low high = absurd (omega arith)
-text-tells maxSize sizeSoFar s number place (TextFailsAt.cut-text l h) low high = absurd (omega arith)
-
-value-tells : (t : ℕ) (s : List ℕ) (number place : ℕ) → ValueFailsAt t s number place → 4 ≤ number → number ≤ 10 → TellsPlace number
-value-tells t s number place (ValueFailsAt.unknown-type k) low high = record { above = omega arith; below = high }
-value-tells t s number place (ValueFailsAt.not-boolean e l h) low high = record { above = omega arith; below = high }
-value-tells t s number place (ValueFailsAt.text e h) low high = text-tells _ _ _ number _ h low high
-value-tells t s number place (ValueFailsAt.many-booleans e l h) low high = record { above = omega arith; below = high }
-value-tells t s number place (ValueFailsAt.many-doubles e l h) low high = record { above = omega arith; below = high }
-value-tells t s number place (ValueFailsAt.cut-boolean e l) low high = absurd (omega arith)
-value-tells t s number place (ValueFailsAt.cut-double e l) low high = absurd (omega arith)
-value-tells t s number place (ValueFailsAt.cut-count element e l) low high = absurd (omega arith)
-
-field-within : (ids : Ids) (m : List ℕ) (number place : ℕ) → MessageFailsAt ids m number place → 4 ≤ number → number ≤ 10 → place < length m
-field-within ids m number place (MessageFailsAt.assignment k f) low high = go number place f low high
-  where
-    go : (number place : ℕ) → AssignmentFailsAt (ids .allowed) m number place → 4 ≤ number → number ≤ 10 → place < length m
-    go number place (AssignmentFailsAt.name h) low high =
-        place-in-message ids m number _ (MessageFailsAt.assignment k (AssignmentFailsAt.name h)) (text-tells _ _ _ number _ h low high)
-    go number place (AssignmentFailsAt.type name l h) low high = l
-    go number place (AssignmentFailsAt.cut-type name l) low high = absurd (omega arith)
-    go number place (AssignmentFailsAt.wrong-id type l h) low high = omega arith
-    go number place (AssignmentFailsAt.cut-id type l) low high = absurd (omega arith)
-    go number place (AssignmentFailsAt.cut-number type a l h) low high = absurd (omega arith)
-    go number place (AssignmentFailsAt.value type a l h) low high =
-        place-in-message ids m number _ (MessageFailsAt.assignment k (AssignmentFailsAt.value type a l h)) (value-tells _ _ number _ h low high)
-field-within ids m number place (MessageFailsAt.update k f) low high = go number place f low high
-  where
-    go : (number place : ℕ) → UpdateFailsAt (ids .held) (ids .typeOf) m number place → 4 ≤ number → number ≤ 10 → place < length m
-    go number place (UpdateFailsAt.unknown-id l h) low high = omega arith
-    go number place (UpdateFailsAt.cut-id l) low high = absurd (omega arith)
-    go number place (UpdateFailsAt.cut-number a l h) low high = absurd (omega arith)
-    go number place (UpdateFailsAt.value a known l h) low high =
-        place-in-message ids m number _ (MessageFailsAt.update k (UpdateFailsAt.value a known l h)) (value-tells _ _ number _ h low high)
-
-within : (limit : ℕ) (mem : ServerMemory) (c : ℕ) (m : List ℕ) (r : Reason) → HoldsOf limit mem c m r → Within m r
-unfolding Within
-within limit mem c m r (HoldsOf.unsound-memory h) = λ low high. absurd (omega arith)
-within limit mem c m r (HoldsOf.no-connection h) = λ low high. absurd (omega arith)
-within limit mem c m r (HoldsOf.connection-closed h) = λ low high. absurd (omega arith)
-within limit mem c m r (HoldsOf.hello-not-open k h) = λ low high. absurd (omega arith)
-within limit mem c m r (HoldsOf.assignment-not-greeted k h) = λ low high. absurd (omega arith)
-within limit mem c m r (HoldsOf.update-not-greeted k h) = λ low high. absurd (omega arith)
-within limit mem c m r (HoldsOf.no-kind h) = λ low high. absurd (omega arith)
-within limit mem c m r (HoldsOf.kind-unknown there a b d e) = λ low high. there
-within limit mem c m r (HoldsOf.cut-revision k h) = λ low high. absurd (omega arith)
-within limit mem c m r (HoldsOf.field-fails f) = λ low high. field-within _ m _ _ f low high
-within limit mem c m r (HoldsOf.full n h) = λ low high. absurd (omega arith)
-within limit mem c m r (HoldsOf.keep-alive h) = tt
-within limit mem c m r (HoldsOf.name-held e h l i) = tt
-within limit mem c m r (HoldsOf.equal u h) = tt
-within limit mem c m r (HoldsOf.older u h i) = tt
-within limit mem c m r (HoldsOf.undefined u h) = tt
-within limit mem c m r (HoldsOf.applied u h i j) = tt
-within limit mem c m r (HoldsOf.hello-done v h i) = tt
-within limit mem c m r (HoldsOf.assignment-done n h i) = tt
-
 bytes-take : (n : ℕ) (m : List ℕ) → Bytes m → Bytes (take n m)
 bytes-take zero m b i = omega arith
 bytes-take (suc n) [] b i = omega arith
@@ -297,14 +220,14 @@ bytes-take (suc n) (x ∷ m) b zero = b 0
 bytes-take (suc n) (x ∷ m) b (suc i) = bytes-take n m (λ j. b (suc j)) i
 
 pub cut-incomplete : CutIncomplete
-unfolding Within
-cut-incomplete limit some mem c m out room b fault is of n before = call-gives limit some mem c (take n m) out room ∙ go (eqb (numberOf (why limit mem c (take n m))) 1) refl
+unfolding Told
+cut-incomplete limit some mem c m out b fault is of n before = given _ _ (any-output limit some mem c (take n m) out (bytes-take n m b)) (go (eqb (numberOf (why limit mem c (take n m))) 1) refl)
   where
     beyond : why limit mem c (take n m) ≡ Refused fault → numberOf (why limit mem c (take n m)) ≢ 1 → (number : ℕ) → fault .number ≡ number → OfField number → ⊥
     beyond e other number known OfField.not-whole = other (ap numberOf e ∙ known)
     beyond e other number known (OfField.breaks-rule low high) =
-        let inside = rw e at (within limit mem c (take n m) _ (reason-holds limit mem c (take n m) (bytes-take n m b))) in
-        omega (arith, inside (rw known low) (rw known high), length-take n m, before)
+        let told = rw e at (why-told limit mem c (take n m) (bytes-take n m b)) in
+        omega (arith, told .within (rw known low) (rw known high), length-take n m, before)
 
     go : (t : Bool) → eqb (numberOf (why limit mem c (take n m))) 1 ≡ t → numberOf (why limit mem c (take n m)) ≡ 1
     go true e = eqb-true _ 1 e
@@ -312,3 +235,7 @@ cut-incomplete limit some mem c m out room b fault is of n before = call-gives l
         let other = eqb-false _ 1 e in
         let all : why limit mem c m ≡ why limit mem c (take n m) = ap (why limit mem c) (sym (take-append-drop n m)) ∙ behind-not-looked-at limit mem c (take n m) (drop n m) other in
         absurd (beyond (sym all ∙ is) other _ refl of)
+
+    given : (expected number : ℕ) → GivenIn expected number → expected ≡ 1 → number ≡ 1
+    given expected number GivenIn.same e = e
+    given expected number (GivenIn.no-room z) e = absurd (omega (arith, z, e))

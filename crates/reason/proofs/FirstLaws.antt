@@ -6,24 +6,28 @@ use Rattle.field.specs.Choice.{pick}
 use Rattle.field.proofs.ChoiceLaws.{by-test}
 use Rattle.reason.specs.Checks.{Check, checks}
 use Rattle.reason.specs.Why.{firstFailing, why}
-use Rattle.reason.specs.First.{AllPass, Decides, FirstDecides, OneReason}
+use Rattle.reason.specs.First.{AllPass, DecidedBy, FirstDecides, SomeReason, OneReason}
 use Rattle.reason.specs.declared.Reason.{Reason}
+use Rattle.reason.proofs.HoldsLaws.{reason-holds}
 
 -- ---- the first check that fails
 
-one-more : (k : Check) (ks : List Check) (passed r : Reason) → k .passes ≡ true → Decides ks passed r → Decides (k ∷ ks) passed r
-one-more k ks passed r p (Decides.fails before after f is all no-pass) = Decides.fails (k ∷ before) after f (ap (λ (l : List Check). k ∷ l) is) (AllPass.passes p all) no-pass
-one-more k ks passed r p (Decides.all-pass all) = Decides.all-pass (AllPass.passes p all)
+one-more : (k : Check) (ks : List Check) (passed r : Reason) → k .passes ≡ true → DecidedBy ks passed r → DecidedBy (k ∷ ks) passed r
+one-more k ks passed r p (DecidedBy.fails before after f is all no-pass) = DecidedBy.fails (k ∷ before) after f (ap (λ (l : List Check). k ∷ l) is) (AllPass.passes p all) no-pass
+one-more k ks passed r p (DecidedBy.all-pass all) = DecidedBy.all-pass (AllPass.passes p all)
 
-pub first-failing : (ks : List Check) (passed : Reason) → Decides ks passed (firstFailing ks passed)
+pub first-failing : (ks : List Check) (passed : Reason) → DecidedBy ks passed (firstFailing ks passed)
 unfolding firstFailing
-first-failing [] passed = Decides.all-pass AllPass.none
+first-failing [] passed = DecidedBy.all-pass AllPass.none
 first-failing (k ∷ ks) passed =
-    by-test (Decides (k ∷ ks) passed) (k .passes) _ _ (λ p. one-more k ks passed _ p (first-failing ks passed)) (λ f. Decides.fails [] ks k refl AllPass.none f)
+    by-test (DecidedBy (k ∷ ks) passed) (k .passes) _ _ (λ p. one-more k ks passed _ p (first-failing ks passed)) (λ f. DecidedBy.fails [] ks k refl AllPass.none f)
 
 pub first-decides : FirstDecides
 unfolding why
 first-decides limit mem c m = first-failing (checks limit mem c m) _
+
+pub some-reason : SomeReason
+some-reason limit mem c m b = record { holds = reason-holds limit mem c m b; decides = first-decides limit mem c m }
 
 -- ---- and no other
 
@@ -37,9 +41,9 @@ unfolding firstFailing pick
 failed [] after k passed all f = rw f
 failed (b ∷ before) after k passed (AllPass.passes p all) f = rw p (failed before after k passed all f)
 
-pub decided : (ks : List Check) (passed r : Reason) → Decides ks passed r → firstFailing ks passed ≡ r
-decided ks passed r (Decides.fails before after k is all f) = rw is (failed before after k passed all f)
-decided ks passed r (Decides.all-pass all) = all-passed ks passed all
+pub decided : (ks : List Check) (passed r : Reason) → DecidedBy ks passed r → firstFailing ks passed ≡ r
+decided ks passed r (DecidedBy.fails before after k is all f) = rw is (failed before after k passed all f)
+decided ks passed r (DecidedBy.all-pass all) = all-passed ks passed all
 
 pub one-reason : OneReason
 one-reason limit mem c m r s a b = sym (decided _ _ r (a .decides)) ∙ decided _ _ s (b .decides)

@@ -1,4 +1,4 @@
--- "The order in which a message is judged", as a list of checks. A place is counted from the message's first byte.
+-- "The order in which a message is judged", as a list of checks, but for the output room (12), which is no reason. A place is counted from the message's first byte.
 use Prim.Native.Nat.{ℕ, zero, suc, _+_, _-_}
 use mathlib.Core.Bool.{Bool, not, _&&_, _||_}
 use mathlib.Core.List.{List, [], _∷_, _++_}
@@ -46,7 +46,7 @@ numberIn m place = decode16 (drop place m)
 
 -- ---- values
 
--- a text and its length prefix
+-- how many bytes a text has with its length prefix
 abbrev pub textSize : List ℕ → (place : ℕ) → ℕ
 textSize m place = prefixSize + numberIn m place
 
@@ -68,6 +68,7 @@ elementChecks element m sizeSoFar place =
     (pick (eqb element double) (there m place doubleSize ∷ [])
     (textChecks m maxValueSize sizeSoFar place))
 
+-- how many bytes an element has
 unfoldable pub elementSize : (element : ℕ) → List ℕ → (place : ℕ) → ℕ
 elementSize element m place = pick (eqb element boolean) booleanSize (pick (eqb element double) doubleSize (textSize m place))
 
@@ -91,7 +92,7 @@ valueChecks type m place = pick (leb type string) (elementChecks type m 0 place)
 
 -- ---- messages
 
--- "Hello: .. revision (2)"
+-- "0x01 hello, revision (2)"
 abbrev pub helloChecks : List ℕ → List Check
 helloChecks m = there m kindSize numberSize ∷ []
 
@@ -135,7 +136,7 @@ updateChecks es m =
     ∷ there m updateNumberStart numberSize
     ∷ (valueChecks (getD es (updateIdIn m) defaultEntry .type) m updateValueStart ++ numberChecks (storedIn es m) (receivedIn m))
 
--- "0x02 and 0x03 from a client: 4"
+-- "message kind unknown, or not for this end"; "0x02 and 0x03 from a client: 4"
 unfoldable pub fromClient : (kind : ℕ) → Bool
 fromClient kind = eqb kind keepAliveKind || (eqb kind helloKind || (eqb kind assignmentKind || eqb kind updateKind))
 
@@ -143,6 +144,7 @@ fromClient kind = eqb kind keepAliveKind || (eqb kind helloKind || (eqb kind ass
 unfoldable pub stateAllows : (mark kind : ℕ) → Bool
 stateAllows mark kind = eqb kind keepAliveKind || pick (eqb kind helloKind) (eqb mark open′) (eqb mark greeted)
 
+-- the checks behind a kind that a client may send
 unfoldable pub behindKind : ℕ → List Entry → (kind : ℕ) → List ℕ → List Check
 behindKind limit es kind m =
     pick (eqb kind keepAliveKind) []

@@ -3,11 +3,10 @@ use Prim.Native.Nat.{ℕ, _≤_}
 use mathlib.Core.List.{List, _++_}
 use mathlib.Core.Path.{_≡_}
 use mathlib.Core.Logic.{_≢_}
-use lib.ListN.{length, take}
+use lib.ListN.{take}
 use Rattle.field.specs.Answer.{incomplete, unknownKind, tooLong}
 use Rattle.field.specs.declared.Fault.{Fault}
 use Rattle.message.specs.Reader.{Bytes}
-use Rattle.hello.specs.Hello.{longestHello}
 use Rattle.protocol.specs.Step.{ServerMemory, callStep}
 use Rattle.protocol.specs.Taken.{messageCall}
 use Rattle.reason.specs.Reason.{numberOf}
@@ -27,6 +26,6 @@ pub data OfField : (number : ℕ) → Type 0 where
 -- cut anywhere up to the first byte of the field that is named, the message is answered 1: nothing before that field is refused
 abbrev pub CutIncomplete : Type 0
 CutIncomplete =
-    (limit : ℕ) → 1 ≤ limit → (mem : ServerMemory) (c : ℕ) (m out : List ℕ) → longestHello limit ≤ length out → Bytes m
+    (limit : ℕ) → 1 ≤ limit → (mem : ServerMemory) (c : ℕ) (m out : List ℕ) → Bytes m
     → (fault : Fault) → why limit mem c m ≡ Refused fault → OfField (fault .number) → (n : ℕ) → n ≤ fault .place
     → callStep limit mem (messageCall c (take n m) out) .number ≡ incomplete

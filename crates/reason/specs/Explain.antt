@@ -33,7 +33,7 @@ ignoredReason es kind m =
     (pick (eqb kind assignmentKind) (NameHeld (holder (nameIn (nameLengthIn m) m) es))
     (numberReason (storedIn es m) (receivedIn m)))
 
--- of a verdict on a client's message
+-- of a verdict on a client's message; those on other calls do not arise
 abbrev pub explain : List Entry → (kind : ℕ) → List ℕ → Verdict → Reason
 explain es kind m (refuse fault) = Refused fault
 explain es kind m (ignore taken) = ignoredReason es kind m
@@ -49,7 +49,7 @@ abbrev pub verdictReason : ℕ → ServerMemory → (c : ℕ) → List ℕ → R
 verdictReason limit mem c m =
     explain (entriesOf (mem .table)) (getD m 0 0) m (judge limit (entriesOf (mem .table)) (mem .marks) (clientMessage c m))
 
--- past 14
+-- 14 first, and then the reason of the verdict
 abbrev pub WhyExplained : Type 0
 WhyExplained =
     (limit : ℕ) (mem : ServerMemory) (c : ℕ) (m : List ℕ)

@@ -1,13 +1,13 @@
 -- "the reason named is true of this message": what must be so, for each reason. Proved in proofs/HoldsLaws.antt.
-use Prim.Native.Nat.{ℕ, _≤_, _<_}
+use Prim.Native.Nat.{ℕ, _+_, _≤_, _<_}
 use mathlib.Core.Bool.{false, _&&_}
 use mathlib.Core.List.{List}
 use mathlib.Core.Path.{_≡_}
 use mathlib.Core.Logic.{_≢_}
 use lib.ListN.{length, getD}
 use Rattle.field.specs.Answer.{incomplete, connectionTooHigh, wrongState, unknownKind, tableFull, unsound}
-use Rattle.sequence.specs.SequenceNumber.{half, distance}
-use Rattle.message.specs.Layout.{Entry, keepAlive, hello, assignment, update, keepAliveKind, helloKind, assignmentKind, updateKind, kindSize, revisionLength}
+use Rattle.sequence.specs.SequenceNumber.{modulus, half, distance}
+use Rattle.message.specs.Layout.{Entry, Message, keepAlive, hello, assignment, update, keepAliveKind, helloKind, assignmentKind, updateKind, kindSize, revisionLength}
 use Rattle.message.specs.Reader.{Bytes}
 use Rattle.table.specs.Names.{nameHeld}
 use Rattle.table.specs.Table.{defaultEntry, entriesOf}
@@ -16,27 +16,39 @@ use Rattle.places.specs.MessageFails.{MessageFailsAt}
 use Rattle.places.specs.PlaceTells.{clientIds}
 use Rattle.protocol.specs.Judge.{newId}
 use Rattle.protocol.specs.Step.{ServerMemory}
-use Rattle.protocol.specs.Taken.{StandsFirst}
+use Rattle.protocol.specs.Taken.{StandsFirst, StateAllows}
 use Rattle.reason.specs.Reason.{refusedAt}
 use Rattle.reason.specs.Why.{why}
 use Rattle.reason.specs.declared.Reason.{Reason}
 use Rattle.reason.specs.declared.Reason.the-variants.{KeepAlive, NameHeld, Equal, Older, Undefined, Applied, Done}
 
--- an update of a held entry stands first, whose number is so far from the stored one
-pub record UpdateStands (es : List Entry) (m : List ℕ) : Type 0 where
+-- the connection is one, and not closed
+pub record Connected (mem : ServerMemory) (c : ℕ) : Type 0 where
+  pub connection : c < connections
+  pub not-closed : getD (mem .marks) c 0 ≢ closed
+
+-- a message stands first, of a connection whose state allows it
+pub record Stands (mem : ServerMemory) (c : ℕ) (m : List ℕ) (x : Message) : Type 0 where
+  pub first : StandsFirst (entriesOf (mem .table)) m x
+  pub connection : c < connections
+  pub state : StateAllows (getD (mem .marks) c 0) x
+
+-- an update of a held ID does
+pub record UpdateStands (mem : ServerMemory) (c : ℕ) (m : List ℕ) : Type 0 where
   pub id : ℕ
   pub received : ℕ
   pub value : List ℕ
-  pub stands : StandsFirst es m (update id received value)
+  pub stands : Stands mem c m (update id received value)
 
-abbrev pub stored : {es : List Entry} {m : List ℕ} → UpdateStands es m → ℕ
-stored {es = es} u = getD es (u .id) defaultEntry .number
+-- the number of the entry that has the ID
+abbrev pub stored : {mem : ServerMemory} {c : ℕ} {m : List ℕ} → UpdateStands mem c m → ℕ
+stored {mem = mem} u = getD (entriesOf (mem .table)) (u .id) defaultEntry .number
 
--- a new assignment stands first
-pub record NewNameStands (es : List Entry) (m : List ℕ) : Type 0 where
+-- an assignment does, whose name no entry has
+pub record NewNameStands (mem : ServerMemory) (c : ℕ) (m : List ℕ) : Type 0 where
   pub entry : Entry
-  pub stands : StandsFirst es m (assignment newId entry)
-  pub new : nameHeld (entry .name) es ≡ false
+  pub stands : Stands mem c m (assignment newId entry)
+  pub new : nameHeld (entry .name) (entriesOf (mem .table)) ≡ false
 
 pub data HoldsOf (limit : ℕ) (mem : ServerMemory) (c : ℕ) (m : List ℕ) : Reason → Type 0 where
   -- "lent table unsound or too small"
@@ -44,33 +56,42 @@ pub data HoldsOf (limit : ℕ) (mem : ServerMemory) (c : ℕ) (m : List ℕ) : R
   -- "connection number above 15"
   no-connection : connections ≤ c → HoldsOf limit mem c m (refusedAt connectionTooHigh 0)
   -- "connection state does not allow this": it is closed; or "Hello: open connections only", "greeted only"
-  connection-closed : getD (mem .marks) c 0 ≡ closed → HoldsOf limit mem c m (refusedAt wrongState 0)
-  hello-not-open : getD m 0 0 ≡ helloKind → getD (mem .marks) c 0 ≢ open′ → HoldsOf limit mem c m (refusedAt wrongState 0)
-  assignment-not-greeted : getD m 0 0 ≡ assignmentKind → getD (mem .marks) c 0 ≢ greeted → HoldsOf limit mem c m (refusedAt wrongState 0)
-  update-not-greeted : getD m 0 0 ≡ updateKind → getD (mem .marks) c 0 ≢ greeted → HoldsOf limit mem c m (refusedAt wrongState 0)
+  connection-closed : c < connections → getD (mem .marks) c 0 ≡ closed → HoldsOf limit mem c m (refusedAt wrongState 0)
+  hello-not-open : c < connections → getD m 0 0 ≡ helloKind → getD (mem .marks) c 0 ≢ open′ → HoldsOf limit mem c m (refusedAt wrongState 0)
+  assignment-not-greeted : c < connections → getD m 0 0 ≡ assignmentKind → getD (mem .marks) c 0 ≢ greeted → HoldsOf limit mem c m (refusedAt wrongState 0)
+  update-not-greeted : c < connections → getD m 0 0 ≡ updateKind → getD (mem .marks) c 0 ≢ greeted → HoldsOf limit mem c m (refusedAt wrongState 0)
   -- the kind, and a hello's revision
-  no-kind : length m < kindSize → HoldsOf limit mem c m (refusedAt incomplete 0)
-  kind-unknown : kindSize ≤ length m → getD m 0 0 ≢ keepAliveKind → getD m 0 0 ≢ helloKind → getD m 0 0 ≢ assignmentKind → getD m 0 0 ≢ updateKind
+  no-kind : Connected mem c → length m < kindSize → HoldsOf limit mem c m (refusedAt incomplete 0)
+  kind-unknown : Connected mem c → kindSize ≤ length m → getD m 0 0 ≢ keepAliveKind → getD m 0 0 ≢ helloKind → getD m 0 0 ≢ assignmentKind → getD m 0 0 ≢ updateKind
       → HoldsOf limit mem c m (refusedAt unknownKind 0)
-  cut-revision : getD m 0 0 ≡ helloKind → length m < revisionLength → HoldsOf limit mem c m (refusedAt incomplete kindSize)
+  cut-revision : c < connections → getD (mem .marks) c 0 ≡ open′ → getD m 0 0 ≡ helloKind → length m < revisionLength → HoldsOf limit mem c m (refusedAt incomplete kindSize)
   -- the field of an assignment or update that begins at the place is not wholly there, or breaks the rule of the number
-  field-fails : {number place : ℕ} → MessageFailsAt (clientIds (entriesOf (mem .table))) m number place → HoldsOf limit mem c m (refusedAt number place)
+  field-fails : {number place : ℕ} → c < connections → getD (mem .marks) c 0 ≡ greeted → MessageFailsAt (clientIds (entriesOf (mem .table))) m number place
+      → HoldsOf limit mem c m (refusedAt number place)
   -- "table full"
-  full : NewNameStands (entriesOf (mem .table)) m → limit ≤ length (entriesOf (mem .table)) → HoldsOf limit mem c m (refusedAt tableFull 0)
-  keep-alive : StandsFirst (entriesOf (mem .table)) m keepAlive → HoldsOf limit mem c m KeepAlive
+  full : NewNameStands mem c m → limit ≤ length (entriesOf (mem .table)) → HoldsOf limit mem c m (refusedAt tableFull 0)
+  keep-alive : Stands mem c m keepAlive → HoldsOf limit mem c m KeepAlive
   -- "a duplicate name with the holding ID"
-  name-held : {id : ℕ} (e : Entry) → StandsFirst (entriesOf (mem .table)) m (assignment newId e) → id < length (entriesOf (mem .table))
+  name-held : {id : ℕ} (e : Entry) → Stands mem c m (assignment newId e) → id < length (entriesOf (mem .table))
       → getD (entriesOf (mem .table)) id defaultEntry .name ≡ e .name → HoldsOf limit mem c m (NameHeld id)
   -- "an update equal, older by a stated distance, undefined at 32,768, or applied with its distance"
-  equal : (u : UpdateStands (entriesOf (mem .table)) m) → distance (stored u) (u .received) ≡ 0 → HoldsOf limit mem c m Equal
-  older : {d : ℕ} (u : UpdateStands (entriesOf (mem .table)) m) → half < distance (stored u) (u .received) → distance (u .received) (stored u) ≡ d
+  equal : (u : UpdateStands mem c m) → distance (stored u) (u .received) ≡ 0 → HoldsOf limit mem c m Equal
+  older : {d : ℕ} (u : UpdateStands mem c m) → half < distance (stored u) (u .received) → distance (u .received) (stored u) ≡ d
       → HoldsOf limit mem c m (Older d)
-  undefined : (u : UpdateStands (entriesOf (mem .table)) m) → distance (stored u) (u .received) ≡ half → HoldsOf limit mem c m Undefined
-  applied : {d : ℕ} (u : UpdateStands (entriesOf (mem .table)) m) → distance (stored u) (u .received) ≡ d → 1 ≤ d → d < half → HoldsOf limit mem c m (Applied d)
+  undefined : (u : UpdateStands mem c m) → distance (stored u) (u .received) ≡ half → HoldsOf limit mem c m Undefined
+  applied : {d : ℕ} (u : UpdateStands mem c m) → distance (stored u) (u .received) ≡ d → 1 ≤ d → d < half → HoldsOf limit mem c m (Applied d)
   -- "another message done"
-  hello-done : (revision : ℕ) → StandsFirst (entriesOf (mem .table)) m (hello revision) → getD (mem .marks) c 0 ≡ open′ → HoldsOf limit mem c m Done
-  assignment-done : NewNameStands (entriesOf (mem .table)) m → length (entriesOf (mem .table)) < limit → getD (mem .marks) c 0 ≡ greeted → HoldsOf limit mem c m Done
+  hello-done : (revision : ℕ) → Stands mem c m (hello revision) → HoldsOf limit mem c m Done
+  assignment-done : NewNameStands mem c m → length (entriesOf (mem .table)) < limit → HoldsOf limit mem c m Done
 
 -- for every limit, memory, connection and message
 abbrev pub ReasonHolds : Type 0
 ReasonHolds = (limit : ℕ) (mem : ServerMemory) (c : ℕ) (m : List ℕ) → Bytes m → HoldsOf limit mem c m (why limit mem c m)
+
+-- what the distances say of two numbers: with 0 they are equal; else those of both ways go once round, so an update that is older is so by 1 to 32,767
+pub record BothWays (stored received : ℕ) : Type 0 where
+  pub equal : distance stored received ≡ 0 → received ≡ stored
+  pub round : distance stored received ≢ 0 → distance stored received + distance received stored ≡ modulus
+
+abbrev pub Distances : Type 0
+Distances = (stored received : ℕ) → stored < modulus → received < modulus → BothWays stored received

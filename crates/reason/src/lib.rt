@@ -8,7 +8,7 @@ pub enum Reason {
     KeepAlive,
     // The ID of the entry that has the name.
     NameHeld(u16),
-    // Of an update, by how far its number is from the stored one.
+    // Of an update: Older by stored minus received, Applied by received minus stored, modulo 65,536.
     Equal,
     Older(u16),
     Undefined,

@@ -20,9 +20,9 @@ use Rattle.text.specs.Fails.{TextFailsAt, TextFails}
 pub text-refuses : (maxSize sizeSoFar : ℕ) (s : List ℕ) → Refuses (TextFailsAt maxSize sizeSoFar s) (parseText maxSize sizeSoFar s)
 unfolding parseText
 text-refuses maxSize sizeSoFar s =
-    by-test P _ _ _ (λ there. by-test P _ _ _ (λ _. by-test P _ _ _ (λ all. by-test P _ _ _ (λ _. Refuses.taken)
-    (λ u. refuses-with F 9 2 (TextFailsAt.not-text (leb-true _ _ all) u)))
-    (λ cut. refuses-with F 1 2 (TextFailsAt.cut-text (leb-true _ _ there) (leb-false _ _ cut))))
+    by-test P _ _ _ (λ there. by-test P _ _ _ (λ fits. by-test P _ _ _ (λ all. by-test P _ _ _ (λ _. Refuses.taken)
+    (λ u. refuses-with F 9 2 (TextFailsAt.not-text (leb-true _ _ fits) (leb-true _ _ all) u)))
+    (λ cut. refuses-with F 1 2 (TextFailsAt.cut-text (leb-true _ _ there) (leb-true _ _ fits) (leb-false _ _ cut))))
     (λ l. refuses-with F 10 0 (TextFailsAt.long-text (leb-true _ _ there) (leb-false _ _ l))))
     (λ cut. refuses-with F 1 0 (TextFailsAt.cut-prefix (leb-false _ _ cut)))
   where
@@ -38,9 +38,9 @@ text-fails maxSize sizeSoFar s fault e = refused-with (TextFailsAt maxSize sizeS
 -- a text has no type
 pub text-number : (maxSize sizeSoFar : ℕ) (s : List ℕ) (number place : ℕ) → TextFailsAt maxSize sizeSoFar s number place → number ≢ unknownType
 text-number maxSize sizeSoFar s number place (TextFailsAt.long-text there l) e = omega arith
-text-number maxSize sizeSoFar s number place (TextFailsAt.not-text all u) e = omega arith
+text-number maxSize sizeSoFar s number place (TextFailsAt.not-text fits all u) e = omega arith
 text-number maxSize sizeSoFar s number place (TextFailsAt.cut-prefix l) e = omega arith
-text-number maxSize sizeSoFar s number place (TextFailsAt.cut-text there l) e = omega arith
+text-number maxSize sizeSoFar s number place (TextFailsAt.cut-text there fits l) e = omega arith
 
 -- a text that is not UTF-8 has a byte
 pub some-byte : (n : ℕ) (s : List ℕ) → isUtf8 (take n s) ≡ false → 0 < n
@@ -51,6 +51,6 @@ some-byte (suc n) s u = omega arith
 -- so the place is that of a byte
 pub text-within : (maxSize sizeSoFar : ℕ) (s : List ℕ) (number place : ℕ) → TextFailsAt maxSize sizeSoFar s number place → TellsPlace number → place < length s
 text-within maxSize sizeSoFar s number place (TextFailsAt.long-text there l) tells = omega arith
-text-within maxSize sizeSoFar s number place (TextFailsAt.not-text all u) tells = omega (arith, some-byte (decode16 s) (drop 2 s) u)
+text-within maxSize sizeSoFar s number place (TextFailsAt.not-text fits all u) tells = omega (arith, some-byte (decode16 s) (drop 2 s) u)
 text-within maxSize sizeSoFar s number place (TextFailsAt.cut-prefix l) tells = absurd (omega arith)
-text-within maxSize sizeSoFar s number place (TextFailsAt.cut-text there l) tells = absurd (omega arith)
+text-within maxSize sizeSoFar s number place (TextFailsAt.cut-text there fits l) tells = absurd (omega arith)

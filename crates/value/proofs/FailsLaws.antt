@@ -89,7 +89,7 @@ module _ (t : ℕ) (s : List ℕ) where
   array-refuses : (element : ℕ) → element ≤ string → t ≡ arrayOf + element → Refuses (ValueFailsAt t s) (parseArray element s)
   unfolding parseArray countFits pick
   array-refuses element small is =
-      by-test P _ _ _ (λ there. by-test P _ _ _ (λ _. elements-refuse element small is (getD s 0 0) 1 (ElementsLeft.behind-count (leb-true _ _ there)))
+      by-test P _ _ _ (λ there. by-test P _ _ _ (λ fits. elements-refuse element small is (getD s 0 0) 1 (ElementsLeft.behind-count (leb-true _ _ there) fits))
       (λ f. refuses-with (ValueFailsAt t s) 10 0 (many (leb-true _ _ there) f)))
       (λ cut. refuses-with (ValueFailsAt t s) 1 0 (ValueFailsAt.cut-count element is (leb-false _ _ cut)))
     where

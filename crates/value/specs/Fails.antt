@@ -1,6 +1,7 @@
--- "The reading of a value shall report, with 7 to 10, the place of the first byte of the field that failed". Proved in proofs/FailsLaws.antt.
+-- "The reading of a value shall report, with 7 to 10, the place of the first byte of the field that failed"; "with 1 the first field not wholly there".
+-- Proved in proofs/FailsLaws.antt.
 use Prim.Native.Nat.{ℕ, suc, _+_, _*_, _≤_, _<_}
-use mathlib.Core.Bool.{false}
+use mathlib.Core.Bool.{true, false}
 use mathlib.Core.List.{List}
 use mathlib.Core.Path.{_≡_}
 use lib.ListN.{length, drop, getD}
@@ -8,11 +9,11 @@ use Rattle.field.specs.Answer.{incomplete, unknownType, badBoolean, tooLong}
 use Rattle.field.specs.declared.Fault.{Fault}
 use Rattle.field.specs.declared.Parsed.the-variants.{Refused, Taken}
 use Rattle.text.specs.Fails.{TextFailsAt}
-use Rattle.value.specs.Value.{boolean, double, string, arrayOf, doubleArray, knownType, maxValueSize, booleanSize, trueByte, doubleSize, countSize, parseElement, parseValue, parseLone}
+use Rattle.value.specs.Value.{boolean, double, string, arrayOf, doubleArray, knownType, maxValueSize, booleanSize, trueByte, doubleSize, countSize, countFits, parseElement, parseValue, parseLone}
 
 -- "count (1) of elements and the elements in order": so many are left at a place of an array, and all before it are whole
 pub data ElementsLeft (element : ℕ) (s : List ℕ) : (left place : ℕ) → Type 0 where
-  behind-count : countSize ≤ length s → ElementsLeft element s (getD s 0 0) countSize
+  behind-count : countSize ≤ length s → countFits element (getD s 0 0) ≡ true → ElementsLeft element s (getD s 0 0) countSize
   behind-element : {left place n : ℕ} → ElementsLeft element s (suc left) place → parseElement element place (drop place s) ≡ Taken n
       → ElementsLeft element s left (place + n)
 
@@ -21,7 +22,7 @@ pub data ElementAt (t : ℕ) (s : List ℕ) : (element place : ℕ) → Type 0 w
   lone : t ≤ string → ElementAt t s t 0
   listed : {element left place : ℕ} → t ≡ arrayOf + element → ElementsLeft element s (suc left) place → ElementAt t s element place
 
--- the field at the place breaks the rule of the number
+-- the field at the place is not wholly there (1), or breaks the rule of the number
 pub data ValueFailsAt (t : ℕ) (s : List ℕ) : (number place : ℕ) → Type 0 where
   -- "With .. a type given as a number, it is 0": no byte of a value is its type
   unknown-type : knownType t ≡ false → ValueFailsAt t s unknownType 0

@@ -10,8 +10,8 @@ use Rattle.why.specs.declared.ReasonAnswer.{ReasonAnswer}
 abbrev answerOf : Reason → (reason id distance place : ℕ) → ReasonAnswer
 answerOf r reason id distance place = record { reason = reason; number = numberOf r; id = id; distance = distance; place = place }
 
--- "the refusal and its field, told by the place of its first byte"; "a duplicate name with the holding ID"; "keep alive";
--- "an update equal, older by a stated distance, undefined at 32,768, or applied with its distance"; "or another message done"
+-- 0 "the refusal and its field, told by the place of its first byte", 1 "keep alive", 2 "a duplicate name with the holding ID",
+-- 3 to 6 "an update equal, older by a stated distance, undefined at 32,768, or applied with its distance", 7 "another message done"
 abbrev pub reasonAnswer : Reason → ReasonAnswer
 reasonAnswer (Refused fault) = answerOf (Refused fault) 0 0 0 (fault .place)
 reasonAnswer KeepAlive = answerOf KeepAlive 1 0 0 0
