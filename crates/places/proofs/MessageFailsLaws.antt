@@ -8,7 +8,7 @@ use native.Mathlib.Omega.{arith}
 use lib.ListN.{length, take, drop, getD, length-drop}
 use lib.Seq.{drop-drop}
 use lib.Dec.{leb}
-use borrow.Author.Tests.{leb-true, leb-false, eqb-true, ne-eqb}
+use borrow.Author.Tests.{leb-true, leb-false, le-leb, lt-leb, eqb-true, ne-eqb}
 use Rattle.field.specs.Answer.{unknownType}
 use Rattle.field.specs.Choice.{pick}
 use Rattle.field.specs.Octets.{decode16}
@@ -23,15 +23,15 @@ use Rattle.utf8.specs.Utf8.{isUtf8}
 use Rattle.text.specs.Text.{parseText}
 use Rattle.text.specs.Fails.{TextFailsAt}
 use Rattle.text.proofs.TextLaws.{TextIs, text-is}
-use Rattle.text.proofs.FailsLaws.{text-refuses, text-within}
+use Rattle.text.proofs.FailsLaws.{text-refuses, text-within, text-failing}
 use Rattle.value.specs.Value.{knownType, parseValue}
 use Rattle.value.specs.Fails.{ValueFailsAt}
 use Rattle.value.proofs.ValueLaws.{value-unknown}
-use Rattle.value.proofs.FailsLaws.{value-refuses, value-of-known, value-within}
+use Rattle.value.proofs.FailsLaws.{value-refuses, value-of-known, value-within, value-failing}
 use Rattle.reader.specs.Reader.{parseTextAt, parseValueAt}
 use Rattle.message.specs.Layout.{assignmentKind, updateKind}
 use Rattle.message.specs.Reader.{idAllowed, parseBehindId, parseAfterName, parseAssignment, parseBehindUpdateId, parseUpdate, parseRevision, ofAssignment, typeGiven, ofUpdate, parseByKind, parseMessage, numberOf, placeOf}
-use Rattle.places.specs.MessageFails.{nameLengthIn, typeStart, valueStart, assignmentIdIn, updateIdIn, NameStands, TypeStands, AssignmentFailsAt, AssignmentFails, UpdateFailsAt, UpdateFails, MessageFailsAt, PlaceInMessage, ReadingFailsAt, ReadingTells}
+use Rattle.places.specs.MessageFails.{nameLengthIn, typeStart, valueStart, assignmentIdIn, updateIdIn, NameStands, TypeStands, AssignmentFailsAt, AssignmentFails, AssignmentFailing, UpdateFailsAt, UpdateFails, UpdateFailing, MessageFailsAt, PlaceInMessage, ReadingFailsAt, ReadingTells}
 use Rattle.message.specs.declared.AllowedId.the-variants.{Any}
 use Rattle.message.specs.declared.AssignmentRead.{AssignmentRead}
 use Rattle.message.specs.declared.AssignmentRead.the-variants as A
@@ -159,6 +159,59 @@ update-fails held typeOf m known fault e = go (rw e at (update-refuses held type
     go : UpdateRefuses held typeOf m (U.Refused fault) → UpdateFailsAt held typeOf m (fault .number) (fault .place)
     go (UpdateRefuses.type-unknown n h k) = absurd (false≢true (sym k ∙ known _ h))
     go (UpdateRefuses.refused n h) = h
+
+-- ---- the other way
+
+name-taken : (m : List ℕ) → NameStands m → parseText 66 0 (drop 1 m) ≡ Taken (2 + nameLengthIn m)
+unfolding parseText pick
+name-taken m n =
+    rw (
+      le-leb 2 (length (drop 1 m)) (omega (arith, n .there, length-drop 1 m)),
+      le-leb (0 + (2 + nameLengthIn m)) 66 (omega (arith, n .fits)),
+      le-leb (2 + nameLengthIn m) (length (drop 1 m)) (omega (arith, n .there, length-drop 1 m)),
+      drop-drop 2 1 m,
+      n .text,
+    )
+
+-- what is read behind a name that stands
+after-name-is : (allowed : ℕ → Bool) (m : List ℕ) → NameStands m → parseAssignment allowed m ≡ parseAfterName allowed (typeStart m) m
+unfolding parseAssignment parseTextAt
+after-name-is allowed m n =
+    let place : 1 + (2 + nameLengthIn m) ≡ typeStart m = omega arith in
+    rw (name-taken m n, place)
+
+pub assignment-failing : AssignmentFailing
+unfolding parseAssignment parseTextAt parseAfterName parseBehindId parseValueAt pick
+assignment-failing allowed m number place (AssignmentFailsAt.name {place = inner} h) = rw (text-failing 66 0 (drop 1 m) number inner h)
+assignment-failing allowed m number place (AssignmentFailsAt.type n l h) = after-name-is allowed m n ∙ rw (le-leb (typeStart m + 1) (length m) (omega arith), h)
+assignment-failing allowed m number place (AssignmentFailsAt.cut-type n l) = after-name-is allowed m n ∙ rw (lt-leb (typeStart m + 1) (length m) l)
+assignment-failing allowed m number place (AssignmentFailsAt.wrong-id t l h) =
+    after-name-is allowed m (t .name) ∙ rw (le-leb (typeStart m + 1) (length m) (omega arith), t .known, le-leb (typeStart m + 3) (length m) l, h)
+assignment-failing allowed m number place (AssignmentFailsAt.cut-id t l) =
+    after-name-is allowed m (t .name) ∙ rw (le-leb (typeStart m + 1) (length m) (omega (arith, t .there)), t .known, lt-leb (typeStart m + 3) (length m) l)
+assignment-failing allowed m number place (AssignmentFailsAt.cut-number t a l h) =
+    after-name-is allowed m (t .name)
+    ∙ rw (le-leb (typeStart m + 1) (length m) (omega arith), t .known, le-leb (typeStart m + 3) (length m) l, a, lt-leb (typeStart m + 5) (length m) (omega arith))
+assignment-failing allowed m number place (AssignmentFailsAt.value {place = inner} t a l h) =
+    let start : typeStart m + 5 ≡ valueStart m = omega arith in
+    after-name-is allowed m (t .name)
+    ∙ rw (
+      le-leb (typeStart m + 1) (length m) (omega arith),
+      t .known,
+      le-leb (typeStart m + 3) (length m) (omega arith),
+      a,
+      start,
+      le-leb (valueStart m) (length m) l,
+      value-failing (getD m (typeStart m) 0) (drop (valueStart m) m) number inner (t .known) h,
+    )
+
+pub update-failing : UpdateFailing
+unfolding parseUpdate parseBehindUpdateId parseValueAt pick
+update-failing held typeOf m number place (UpdateFailsAt.unknown-id l h) = rw (le-leb 3 (length m) l, h)
+update-failing held typeOf m number place (UpdateFailsAt.cut-id l) = rw (lt-leb 3 (length m) l)
+update-failing held typeOf m number place (UpdateFailsAt.cut-number h l c) = rw (le-leb 3 (length m) l, h, lt-leb 5 (length m) c)
+update-failing held typeOf m number place (UpdateFailsAt.value {place = inner} h known l f) =
+    rw (le-leb 3 (length m) (omega arith), h, le-leb 5 (length m) l, value-failing (typeOf (updateIdIn m)) (drop 5 m) number inner known f)
 
 -- ---- a message
 

@@ -6,7 +6,7 @@ use mathlib.Core.Path.{_≡_}
 use lib.ListN.{length, drop, getD}
 use Rattle.field.specs.Answer.{incomplete, wrongId, unknownId, unknownType}
 use Rattle.field.specs.Octets.{decode16}
-use Rattle.field.specs.Field.{octetSize}
+use Rattle.field.specs.Field.{faultAt, octetSize}
 use Rattle.field.specs.Place.{TellsPlace, Told}
 use Rattle.field.specs.declared.Fault.{Fault}
 use Rattle.utf8.specs.Utf8.{isUtf8}
@@ -78,6 +78,11 @@ abbrev pub AssignmentFails : Type 0
 AssignmentFails =
     (allowed : ℕ → Bool) (m : List ℕ) (fault : Fault) → parseAssignment allowed m ≡ A.Refused fault → AssignmentFailsAt allowed m (fault .number) (fault .place)
 
+-- and the other way: where it fails so, the assignment is refused so
+abbrev pub AssignmentFailing : Type 0
+AssignmentFailing =
+    (allowed : ℕ → Bool) (m : List ℕ) (number place : ℕ) → AssignmentFailsAt allowed m number place → parseAssignment allowed m ≡ A.Refused (faultAt number place)
+
 -- ---- an update: "ID (2), number (2), value"
 
 abbrev pub updateIdIn : List ℕ → ℕ
@@ -98,6 +103,11 @@ abbrev pub UpdateFails : Type 0
 UpdateFails =
     (held : ℕ → Bool) (typeOf : ℕ → ℕ) (m : List ℕ) → ((id : ℕ) → held id ≡ true → knownType (typeOf id) ≡ true)
     → (fault : Fault) → parseUpdate held typeOf m ≡ U.Refused fault → UpdateFailsAt held typeOf m (fault .number) (fault .place)
+
+abbrev pub UpdateFailing : Type 0
+UpdateFailing =
+    (held : ℕ → Bool) (typeOf : ℕ → ℕ) (m : List ℕ) (number place : ℕ) → UpdateFailsAt held typeOf m number place
+    → parseUpdate held typeOf m ≡ U.Refused (faultAt number place)
 
 -- ---- a message
 

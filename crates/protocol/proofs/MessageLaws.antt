@@ -82,7 +82,7 @@ module _ (limit : ℕ) (es : List Entry) (c mark : ℕ) where
   judged-keep-alive rest = rw (le-leb 1 (suc (length rest)) (omega arith))
 
   -- whatever stands behind it
-  judged : (x : Message) → FromClient es x → (rest : List ℕ) → judgeMessage limit es c mark (layout x ++ rest) ≡ comesTo limit es c mark x
+  pub judged : (x : Message) → FromClient es x → (rest : List ℕ) → judgeMessage limit es c mark (layout x ++ rest) ≡ comesTo limit es c mark x
   unfolding layout comesTo judgeAssignment judgeUpdate
   judged keepAlive o rest = judged-keep-alive rest
   judged (hello revision) o rest = judged-hello revision rest

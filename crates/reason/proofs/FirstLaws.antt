@@ -1,14 +1,13 @@
 -- The reason is that of the first check that fails, and of no other.
-use mathlib.Core.Path.{_≡_, refl, sym, ap, _∙_}
+use mathlib.Core.Path.{_≡_, refl, sym, ap}
 use mathlib.Core.Bool.{true, false}
 use mathlib.Core.List.{List, [], _∷_, _++_}
 use Rattle.field.specs.Choice.{pick}
 use Rattle.field.proofs.ChoiceLaws.{by-test}
 use Rattle.reason.specs.Checks.{Check, checks}
 use Rattle.reason.specs.Why.{firstFailing, why}
-use Rattle.reason.specs.First.{AllPass, DecidedBy, FirstDecides, SomeReason, OneReason}
+use Rattle.reason.specs.First.{AllPass, DecidedBy, FirstDecides, OneDecides}
 use Rattle.reason.specs.declared.Reason.{Reason}
-use Rattle.reason.proofs.HoldsLaws.{reason-holds}
 
 -- ---- the first check that fails
 
@@ -26,9 +25,6 @@ pub first-decides : FirstDecides
 unfolding why
 first-decides limit mem c m = first-failing (checks limit mem c m) _
 
-pub some-reason : SomeReason
-some-reason limit mem c m b = record { holds = reason-holds limit mem c m b; decides = first-decides limit mem c m }
-
 -- ---- and no other
 
 all-passed : (ks : List Check) (passed : Reason) → AllPass ks → firstFailing ks passed ≡ passed
@@ -45,5 +41,6 @@ pub decided : (ks : List Check) (passed r : Reason) → DecidedBy ks passed r �
 decided ks passed r (DecidedBy.fails before after k is all f) = rw is (failed before after k passed all f)
 decided ks passed r (DecidedBy.all-pass all) = all-passed ks passed all
 
-pub one-reason : OneReason
-one-reason limit mem c m r s a b = sym (decided _ _ r (a .decides)) ∙ decided _ _ s (b .decides)
+pub one-decides : OneDecides
+unfolding why
+one-decides limit mem c m r d = sym (decided _ _ r d)

@@ -2,6 +2,7 @@ pub mod FieldLaws
 pub mod ExplainLaws
 pub mod AnsweredLaws
 pub mod HoldsLaws
+pub mod OnlyLaws
 pub mod FirstLaws
 pub mod NumbersLaws
 pub mod CutLaws

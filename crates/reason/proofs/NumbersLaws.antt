@@ -118,13 +118,13 @@ of-field m number place f = record { can-meet = CanMeet.in-message (f .at-least)
 holds-told : (limit : ℕ) (mem : ServerMemory) (c : ℕ) (m : List ℕ) (r : Reason) → HoldsOf limit mem c m r → Told m r
 unfolding Told
 holds-told limit mem c m r (HoldsOf.unsound-memory h) = record { can-meet = CanMeet.in-memory; within = λ low high. absurd (omega arith) }
-holds-told limit mem c m r (HoldsOf.no-connection h) = no-field m 2 (omega arith) (omega arith)
+holds-told limit mem c m r (HoldsOf.no-connection s h) = no-field m 2 (omega arith) (omega arith)
 holds-told limit mem c m r (HoldsOf.connection-closed b h) = no-field m 3 (omega arith) (omega arith)
 holds-told limit mem c m r (HoldsOf.hello-not-open b k h) = no-field m 3 (omega arith) (omega arith)
 holds-told limit mem c m r (HoldsOf.assignment-not-greeted b k h) = no-field m 3 (omega arith) (omega arith)
 holds-told limit mem c m r (HoldsOf.update-not-greeted b k h) = no-field m 3 (omega arith) (omega arith)
-holds-told limit mem c m r (HoldsOf.no-kind o h) = no-field m 1 (omega arith) (omega arith)
-holds-told limit mem c m r (HoldsOf.kind-unknown o l a b d e) = of-field m 4 0 (field-at m 4 0 (omega arith) (omega arith) l)
+holds-told limit mem c m r (HoldsOf.no-kind o n h) = no-field m 1 (omega arith) (omega arith)
+holds-told limit mem c m r (HoldsOf.kind-unknown o n l a b d e) = of-field m 4 0 (field-at m 4 0 (omega arith) (omega arith) l)
 holds-told limit mem c m r (HoldsOf.cut-revision b o k h) = of-field m 1 1 (field-cut m 1)
 holds-told limit mem c m r (HoldsOf.field-fails b g f) = of-field m _ _ (field-told _ m _ _ f)
 holds-told limit mem c m r (HoldsOf.full n h) = record { can-meet = CanMeet.in-message {number = 11} (omega arith) (omega arith); within = λ low high. absurd (omega arith) }

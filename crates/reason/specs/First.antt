@@ -1,15 +1,13 @@
--- "no earlier check in 01's order fails"; one reason and no other. Proved in proofs/FirstLaws.antt.
+-- "no earlier check in 01's order fails". Proved in proofs/FirstLaws.antt.
 use Prim.Native.Nat.{ℕ}
 use mathlib.Core.Bool.{true, false}
 use mathlib.Core.List.{List, [], _∷_, _++_}
 use mathlib.Core.Path.{_≡_}
 use lib.ListN.{getD}
-use Rattle.message.specs.Reader.{Bytes}
 use Rattle.table.specs.Table.{entriesOf}
 use Rattle.protocol.specs.Step.{ServerMemory}
 use Rattle.reason.specs.Checks.{Check, checks}
 use Rattle.reason.specs.Why.{whenPassed, why}
-use Rattle.reason.specs.Holds.{HoldsOf}
 use Rattle.reason.specs.declared.Reason.{Reason}
 
 -- every one of these checks passes
@@ -28,15 +26,8 @@ FirstDecides =
     (limit : ℕ) (mem : ServerMemory) (c : ℕ) (m : List ℕ)
     → DecidedBy (checks limit mem c m) (whenPassed (entriesOf (mem .table)) (getD m 0 0) m) (why limit mem c m)
 
--- a reason is right where it is true of the message, and no earlier check fails
-pub record IsReason (limit : ℕ) (mem : ServerMemory) (c : ℕ) (m : List ℕ) (r : Reason) : Type 0 where
-  pub holds : HoldsOf limit mem c m r
-  pub decides : DecidedBy (checks limit mem c m) (whenPassed (entriesOf (mem .table)) (getD m 0 0) m) r
-
--- for every input one is, the one that is named
-abbrev pub SomeReason : Type 0
-SomeReason = (limit : ℕ) (mem : ServerMemory) (c : ℕ) (m : List ℕ) → Bytes m → IsReason limit mem c m (why limit mem c m)
-
--- and two different ones never both are
-abbrev pub OneReason : Type 0
-OneReason = (limit : ℕ) (mem : ServerMemory) (c : ℕ) (m : List ℕ) (r s : Reason) → IsReason limit mem c m r → IsReason limit mem c m s → r ≡ s
+-- and of no other check
+abbrev pub OneDecides : Type 0
+OneDecides =
+    (limit : ℕ) (mem : ServerMemory) (c : ℕ) (m : List ℕ) (r : Reason)
+    → DecidedBy (checks limit mem c m) (whenPassed (entriesOf (mem .table)) (getD m 0 0) m) r → r ≡ why limit mem c m

@@ -3,11 +3,12 @@ use mathlib.Core.Path.{_≡_, sym}
 use mathlib.Core.Bool.{false, false≢true}
 use mathlib.Core.Logic.{_≢_}
 use mathlib.Core.List.{List}
-use Prim.Native.Nat.{ℕ, zero, suc, _<_}
+use Prim.Native.Nat.{ℕ, zero, suc, _+_, _<_}
 use native.Mathlib.Omega.{arith}
 use lib.ListN.{length, take, drop}
-use borrow.Author.Tests.{leb-true, leb-false}
+use borrow.Author.Tests.{leb-true, leb-false, le-leb, lt-leb}
 use Rattle.field.specs.Answer.{unknownType}
+use Rattle.field.specs.Choice.{pick}
 use Rattle.field.specs.Octets.{decode16}
 use Rattle.field.specs.Place.{TellsPlace}
 use Rattle.field.specs.declared.Parsed.{Parsed}
@@ -15,7 +16,7 @@ use Rattle.field.proofs.ChoiceLaws.{by-test}
 use Rattle.field.proofs.PlaceLaws.{Refuses, refuses-with, refused-with}
 use Rattle.utf8.specs.Utf8.{isUtf8, utf8From}
 use Rattle.text.specs.Text.{parseText}
-use Rattle.text.specs.Fails.{TextFailsAt, TextFails}
+use Rattle.text.specs.Fails.{TextFailsAt, TextFails, TextFailing}
 
 pub text-refuses : (maxSize sizeSoFar : ℕ) (s : List ℕ) → Refuses (TextFailsAt maxSize sizeSoFar s) (parseText maxSize sizeSoFar s)
 unfolding parseText
@@ -54,3 +55,12 @@ text-within maxSize sizeSoFar s number place (TextFailsAt.long-text there l) tel
 text-within maxSize sizeSoFar s number place (TextFailsAt.not-text fits all u) tells = omega (arith, some-byte (decode16 s) (drop 2 s) u)
 text-within maxSize sizeSoFar s number place (TextFailsAt.cut-prefix l) tells = absurd (omega arith)
 text-within maxSize sizeSoFar s number place (TextFailsAt.cut-text there fits l) tells = absurd (omega arith)
+
+pub text-failing : TextFailing
+unfolding parseText pick
+text-failing maxSize sizeSoFar s number place (TextFailsAt.long-text there l) = rw (le-leb 2 (length s) there, lt-leb (sizeSoFar + (2 + decode16 s)) maxSize l)
+text-failing maxSize sizeSoFar s number place (TextFailsAt.not-text fits all u) =
+    rw (le-leb 2 (length s) (omega arith), le-leb (sizeSoFar + (2 + decode16 s)) maxSize fits, le-leb (2 + decode16 s) (length s) all, u)
+text-failing maxSize sizeSoFar s number place (TextFailsAt.cut-prefix l) = rw (lt-leb 2 (length s) l)
+text-failing maxSize sizeSoFar s number place (TextFailsAt.cut-text there fits l) =
+    rw (le-leb 2 (length s) there, le-leb (sizeSoFar + (2 + decode16 s)) maxSize fits, lt-leb (2 + decode16 s) (length s) l)

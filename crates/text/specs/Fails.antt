@@ -7,6 +7,7 @@ use mathlib.Core.Path.{_≡_}
 use lib.ListN.{length, take, drop}
 use Rattle.field.specs.Answer.{incomplete, notUtf8, tooLong}
 use Rattle.field.specs.Octets.{decode16}
+use Rattle.field.specs.Field.{faultAt}
 use Rattle.field.specs.declared.Fault.{Fault}
 use Rattle.field.specs.declared.Parsed.the-variants.{Refused}
 use Rattle.utf8.specs.Utf8.{isUtf8}
@@ -26,3 +27,9 @@ abbrev pub TextFails : Type 0
 TextFails =
     (maxSize sizeSoFar : ℕ) (s : List ℕ) (fault : Fault) → parseText maxSize sizeSoFar s ≡ Refused fault
     → TextFailsAt maxSize sizeSoFar s (fault .number) (fault .place)
+
+-- and the other way: where it fails so, the text is refused so
+abbrev pub TextFailing : Type 0
+TextFailing =
+    (maxSize sizeSoFar : ℕ) (s : List ℕ) (number place : ℕ) → TextFailsAt maxSize sizeSoFar s number place
+    → parseText maxSize sizeSoFar s ≡ Refused (faultAt number place)

@@ -8,7 +8,7 @@ use native.Mathlib.Omega.{arith}
 use lib.Dec.{eqb}
 use lib.ListN.{length, drop, getD, length-drop}
 use lib.Seq.{drop-drop, getD-drop}
-use borrow.Author.Tests.{leb-true, leb-false, eqb-true, eqb-false}
+use borrow.Author.Tests.{leb-true, leb-false, le-leb, lt-leb, eqb-true, eqb-false}
 use Rattle.field.specs.Answer.{tooLong}
 use Rattle.field.specs.Choice.{pick, demand}
 use Rattle.field.specs.Field.{faultAt, movedBy, andThen}
@@ -18,9 +18,9 @@ use Rattle.field.specs.declared.Parsed.the-variants.{Refused, Taken}
 use Rattle.field.proofs.ChoiceLaws.{by-test}
 use Rattle.field.proofs.PlaceLaws.{Refuses, refuses-with, refused-with, refuses-map}
 use Rattle.text.specs.Text.{parseText}
-use Rattle.text.proofs.FailsLaws.{text-refuses, text-number, text-within}
+use Rattle.text.proofs.FailsLaws.{text-refuses, text-number, text-within, text-failing}
 use Rattle.value.specs.Value.{boolean, double, string, arrayOf, knownType, maxValueSize, countFits, parseBoolean, parseDouble, parseElement, elements, parseArray, parseValue, parseLone}
-use Rattle.value.specs.Fails.{ElementsLeft, ElementAt, ValueFailsAt, ValueFails, LoneFailsAt, LoneFails}
+use Rattle.value.specs.Fails.{ElementsLeft, ElementAt, ValueFailsAt, ValueFails, ValueFailing, LoneFailsAt, LoneFails}
 use Rattle.value.proofs.ValueLaws.{known-array, known-small, value-fits}
 
 -- ---- an element, where it begins
@@ -164,3 +164,55 @@ value-within t s number place known (ValueFailsAt.many-doubles e there l) tells 
 value-within t s number place known (ValueFailsAt.cut-boolean at l) tells = absurd (omega arith)
 value-within t s number place known (ValueFailsAt.cut-double at l) tells = absurd (omega arith)
 value-within t s number place known (ValueFailsAt.cut-count element is l) tells = absurd (omega arith)
+
+-- ---- the other way
+
+module _ (t : ℕ) (s : List ℕ) where
+  -- an array is read on from where so many elements are left
+  record ReadOn (element left place : ℕ) : Type 0 where
+    there : 1 ≤ length s
+    fits : countFits element (getD s 0 0) ≡ true
+    same : elements (parseElement element) (getD s 0 0) 1 (drop 1 s) ≡ elements (parseElement element) left place (drop place s)
+
+  read-on : (element left place : ℕ) → ElementsLeft element s left place → ReadOn element left place
+  unfolding elements
+  read-on element left place (ElementsLeft.behind-count l f) = record { there = l; fits = f; same = refl }
+  read-on element left place (ElementsLeft.behind-element {place = before} {n = n} e taken) =
+      let r = read-on element (suc left) before e in
+      record { there = r .there; fits = r .fits; same = r .same ∙ rw (taken, drop-drop n before s) }
+
+  array-is : (element : ℕ) → t ≡ arrayOf + element → knownType t ≡ true → parseValue t s ≡ parseArray element s
+  unfolding parseValue pick
+  array-is element is known =
+      let less : t - 16 ≡ element = omega (arith, is) in
+      rw (lt-leb t string (omega (arith, is)), known, less)
+
+  element-failing : (element start number place : ℕ) → knownType t ≡ true → ElementAt t s element start → parseElement element start (drop start s) ≡ Refused (faultAt number place)
+      → parseValue t s ≡ Refused (faultAt number (start + place))
+  unfolding parseValue parseArray elements pick
+  element-failing element start number place known (ElementAt.lone l) refused =
+      let here : 0 + place ≡ place = omega arith in
+      rw (le-leb t string l, here) refused
+  element-failing element start number place known (ElementAt.listed {left = left} is e) refused =
+      let r = read-on element (suc left) start e in
+      array-is element is known ∙ rw (le-leb 1 (length s) (r .there), r .fits, r .same, refused)
+
+  value-fails-so : (number place : ℕ) → knownType t ≡ true → ValueFailsAt t s number place → parseValue t s ≡ Refused (faultAt number place)
+  unfolding parseElement parseBoolean parseDouble parseArray countFits pick
+  value-fails-so number place known (ValueFailsAt.unknown-type k) = absurd (false≢true (sym k ∙ known))
+  value-fails-so number place known (ValueFailsAt.not-boolean {place = start} e l b) =
+      let here : start + 0 ≡ start = omega arith in
+      rw here at (element-failing boolean start 8 0 known e (rw (le-leb 1 (length (drop start s)) (omega (arith, length-drop start s)), getD-drop start s 0 0, here, lt-leb (getD s start 0) 1 b)))
+  value-fails-so number place known (ValueFailsAt.text {start = start} {place = inner} e f) = element-failing string start number inner known e (text-failing _ _ _ number inner f)
+  value-fails-so number place known (ValueFailsAt.many-booleans is l m) = array-is boolean is known ∙ rw (le-leb 1 (length s) l, lt-leb (1 + getD s 0 0) 256 (omega (arith, m)))
+  value-fails-so number place known (ValueFailsAt.many-doubles is l m) = array-is 1 is known ∙ rw (le-leb 1 (length s) l, lt-leb (1 + 8 * getD s 0 0) 256 m)
+  value-fails-so number place known (ValueFailsAt.cut-boolean {place = start} e l) =
+      let here : start + 0 ≡ start = omega arith in
+      rw here at (element-failing boolean start 1 0 known e (rw (lt-leb 1 (length (drop start s)) (omega (arith, length-drop start s)))))
+  value-fails-so number place known (ValueFailsAt.cut-double {place = start} e l) =
+      let here : start + 0 ≡ start = omega arith in
+      rw here at (element-failing double start 1 0 known e (rw (lt-leb 8 (length (drop start s)) (omega (arith, length-drop start s)))))
+  value-fails-so number place known (ValueFailsAt.cut-count element is l) = array-is element is known ∙ rw (lt-leb 1 (length s) l)
+
+pub value-failing : ValueFailing
+value-failing t s number place known f = value-fails-so t s number place known f

@@ -6,6 +6,7 @@ use mathlib.Core.List.{List}
 use mathlib.Core.Path.{_≡_}
 use lib.ListN.{length, drop, getD}
 use Rattle.field.specs.Answer.{incomplete, unknownType, badBoolean, tooLong}
+use Rattle.field.specs.Field.{faultAt}
 use Rattle.field.specs.declared.Fault.{Fault}
 use Rattle.field.specs.declared.Parsed.the-variants.{Refused, Taken}
 use Rattle.text.specs.Fails.{TextFailsAt}
@@ -40,6 +41,10 @@ pub data ValueFailsAt (t : ℕ) (s : List ℕ) : (number place : ℕ) → Type 0
 
 abbrev pub ValueFails : Type 0
 ValueFails = (t : ℕ) (s : List ℕ) (fault : Fault) → parseValue t s ≡ Refused fault → ValueFailsAt t s (fault .number) (fault .place)
+
+-- and the other way, of a known type
+abbrev pub ValueFailing : Type 0
+ValueFailing = (t : ℕ) (s : List ℕ) (number place : ℕ) → knownType t ≡ true → ValueFailsAt t s number place → parseValue t s ≡ Refused (faultAt number place)
 
 -- the same of a value that is lent by itself
 pub data LoneFailsAt (t : ℕ) (s : List ℕ) : (number place : ℕ) → Type 0 where
