@@ -1,4 +1,5 @@
--- "the real call, with output for the longest hello answer, gives the number that goes with the reason". Proved in proofs/AnsweredLaws.antt.
+-- "the real call, with output for the longest hello answer, gives the number that goes with the reason".
+-- Proved in proofs/AnsweredLaws.antt and proofs/NumbersLaws.antt.
 use Prim.Native.Nat.{ℕ, _≤_}
 use mathlib.Core.List.{List}
 use mathlib.Core.Path.{_≡_}
