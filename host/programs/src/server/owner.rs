@@ -170,12 +170,13 @@ impl Owner {
         let before = self.table.standing();
         let delivery = self.table.deliver(connection, input, &mut self.output);
         let (ended, taken) = (delivery.ended, delivery.taken);
+        let not_reading = send(delivery, &self.clients);
         let ignored = IgnoredMessages::of(connection, delivery, input, &before, &self.table);
         if let Some(messages) = ignored {
             self.notices.add_ignored(messages);
         }
-        for not_reading in send(delivery, &self.clients) {
-            self.close(not_reading, Reason::NotReading);
+        for connection in not_reading {
+            self.close(connection, Reason::NotReading);
         }
         (ended, taken)
     }
