@@ -65,6 +65,10 @@ nameTaken = 13
 abbrev pub unsound : ℕ
 unsound = 14
 
+-- "15 for filling that is not zero", of a saved table
+abbrev pub badFilling : ℕ
+badFilling = 15
+
 -- "A refusal (1 to 14)"
 pub record RefusalNumber (number : ℕ) : Type 0 where
   pub above : incomplete ≤ number

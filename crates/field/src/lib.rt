@@ -42,6 +42,8 @@ pub const NAME_TAKEN: u8 = 13;
 
 pub const UNSOUND: u8 = 14;
 
+pub const BAD_FILLING: u8 = 15;
+
 // How many bytes a number has.
 pub const NUMBER_SIZE: usize = 2;
 

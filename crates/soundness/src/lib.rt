@@ -22,7 +22,7 @@ pub const OPEN: u8 = 1;
 pub const GREETED: u8 = 2;
 
 // A name's fingerprint is below this number.
-const FINGERPRINTS: usize = 1024;
+pub const FINGERPRINTS: usize = 1024;
 
 // The weights of places: from 1 to so many, and so far from one place to the next.
 const WEIGHTS: u16 = 256;
@@ -85,7 +85,7 @@ fn weighted(b: u8, k: u16) -> u16
 }
 
 // A number that equal names share.
-fn fingerprint(name: &[u8]) -> usize
+pub fn fingerprint(name: &[u8]) -> usize
     requires { ⌜ length (now name) ≤ maxNameLength ⌝ }
     ensures { λ r. ⌜ r ≡ fingerprintOf (now (name .entry)) ⌝ }
 {
@@ -117,8 +117,8 @@ fn held_before(heads: &[u16], bytes: &[u8], i: usize, owner: u8) -> bool
     field::same_bytes(table::name_of(heads, bytes, other), name)
 }
 
-// The owner of a fingerprint once entry i has it too.
-fn next_owner(owner: u8, i: usize) -> u8
+// The owner of a fingerprint once entry i has it too: 0 where none had it, i + 1 where entry i alone has it, else SEVERAL.
+pub fn next_owner(owner: u8, i: usize) -> u8
     requires { ⌜ i < several ⌝ }
     ensures { λ r. ⌜ r ≡ pick (eqb owner 0) (i + 1) several ⌝ }
 {
@@ -128,8 +128,8 @@ fn next_owner(owner: u8, i: usize) -> u8
     SEVERAL
 }
 
-// Whether the names of so many entries all differ: none is held by an entry before it. `owners` has each fingerprint's owner so far: 0
-// where it has none, i + 1 where entry i alone has it, else SEVERAL. It may hold anything at first.
+// Whether the names of so many entries all differ: none is held by an entry before it. `owners` has each fingerprint's owner so far, and may
+// hold anything at first.
 fn all_differ(heads: &[u16], bytes: &[u8], count: usize, owners: &mut [u8]) -> bool
     requires names { ⌜ (count ≤ several) × Named count (now heads) (now bytes) ⌝ }
     requires owners { ⌜ fingerprints ≤ length (now owners) ⌝ }
