@@ -1,0 +1,6 @@
+pub mod ZeroLaws
+pub mod RecordLaws
+pub mod BackLaws
+pub mod ReadingLaws
+pub mod StoringLaws
+pub mod LoadedLaws
