@@ -97,7 +97,7 @@ fn read_named(s: &[u8]) -> Parsed
 // A value of so many bytes, judged alone, and its filling.
 fn read_value(s: &[u8], type_code: u8, value_length: usize) -> Parsed
     requires length { ⌜ («value_length» ≡ valueLengthIn (now s)) × («value_length» ≤ maxValueSize) ⌝ }
-    requires type { ⌜ «type_code» ≡ typeIn (now s) ⌝ }
+    requires typed { ⌜ «type_code» ≡ typeIn (now s) ⌝ }
     ensures { λ r. ⌜ r ≡ parseValueIn (now (s .entry)) ⌝ }
 {
     let end = VALUE_PLACE + value_length;
