@@ -70,7 +70,8 @@ pub enum Number {
     Missing,
 }
 
-fn wide(x: u8) -> u16
+// A byte as a number of two bytes.
+pub fn wide(x: u8) -> u16
     ensures { λ r. ⌜ (r ≡ x) × (r ≤ 255) ⌝ }
 {
     x as u16

@@ -70,9 +70,8 @@ fn held_before(s: &[u8], i: usize, owner: u8) -> bool
 fn read_records(s: &[u8], count: usize, owners: &mut [u8]) -> Parsed
     requires bytes { ⌜ (count ≤ maxEntries) × (countRecordSize ≤ length (now s)) ⌝ }
     requires owners { ⌜ fingerprints ≤ length (now owners) ⌝ }
-    ensures answer { λ r.
+    ensures { λ r.
         ⌜ r ≡ told (readRecords count [] countRecordSize (drop countRecordSize (now (s .entry)))) ⌝ }
-    ensures owners { λ _. ⌜ length (now (owners .exit)) ≡ length (now (owners .entry)) ⌝ }
 {
     let mut at = COUNT_RECORD_SIZE;
     let mut i = 0;
@@ -99,8 +98,7 @@ fn read_records(s: &[u8], count: usize, owners: &mut [u8]) -> Parsed
 // A saved form: a refusal, or how many entries it has.
 fn read_form(s: &[u8], owners: &mut [u8]) -> Parsed
     requires { ⌜ fingerprints ≤ length (now owners) ⌝ }
-    ensures answer { λ r. ⌜ r ≡ told (readSaved maxEntries (now (s .entry))) ⌝ }
-    ensures owners { λ _. ⌜ length (now (owners .exit)) ≡ length (now (owners .entry)) ⌝ }
+    ensures { λ r. ⌜ r ≡ told (readSaved maxEntries (now (s .entry))) ⌝ }
 {
     let first = saved_reader::read_count(s);
     let Parsed::Taken(_n) = first else {
@@ -128,7 +126,7 @@ fn store_record(heads: &mut [u16], bytes: &mut [u8], i: usize, s: &[u8])
 {
     let name_end = NAME_PLACE + (s[NAME_LENGTH_PLACE] as usize);
     let value_end = VALUE_PLACE + (field::u16_at(s, VALUE_LENGTH_PLACE) as usize);
-    let type_code = s[TYPE_PLACE] as u16;
+    let type_code = field::wide(s[TYPE_PLACE]);
     let number = field::u16_at(s, NUMBER_PLACE);
     table::store_entry(
         heads,

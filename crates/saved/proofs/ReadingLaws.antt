@@ -64,7 +64,7 @@ records-are (suc count) xs place s = go (parseRecord s) (record-is s) (λ e n. r
         → ((e : Entry) (n : ℕ) → RecordsAre count (xs ++ (e ∷ [])) (drop n s) (readRecords count (xs ++ (e ∷ [])) (place + n) (drop n s)))
         → RecordsAre (suc count) xs s (andThen refused (movedBy place r) (λ n.
         pick (nameHeld (entryIn s .name) xs) (refused (faultAt nameTaken place)) (readRecords count (xs ++ (entryIn s ∷ [])) (place + n) (drop n s))))
-    go (Refused fault) (RecordIs.refused h) ih = RecordsAre.rejected {fault = faultAt (fault .number) (place + fault .place)} h
+    go (Refused fault) (RecordIs.refused h l) ih = RecordsAre.rejected {fault = faultAt (fault .number) (place + fault .place)} h
     go (Taken n) (RecordIs.taken f g) ih =
         by-test (RecordsAre (suc count) xs s) _ _ _ (λ _. RecordsAre.rejected {fault = faultAt nameTaken place} (omega arith)) (λ new.
         read-next count xs s (entryIn s) (record-of-entry s f g) (entry-obeys s f g) new _ (ih (entryIn s) entryRecordSize))

@@ -5,12 +5,12 @@ use mathlib.Core.List.{List, _∷_, _++_, append-assoc}
 use Prim.Native.Nat.{ℕ, suc, _+_, _-_, _*_, _/_, _%_, _≤_}
 use native.Mathlib.Numerals.{add-one}
 use native.Mathlib.Omega.{arith}
-use lib.ListN.{length, drop, getD, replicate, length-drop, take-append-drop}
+use lib.ListN.{length, drop, getD, replicate, length-take, length-drop, take-append-drop}
 use lib.Seq.{drop-cons, drop-drop, length-take-le}
 use borrow.Author.Tests.{leb-true, eqb-true}
 use Rattle.field.specs.Answer.{incomplete, unknownKind, unknownType, notUtf8, tooLong, badFilling}
 use Rattle.field.specs.Octets.{decode16, encode16}
-use Rattle.field.specs.Field.{faultAt, movedBy, andThen}
+use Rattle.field.specs.Field.{faultAt, faultOf, movedBy, andThen}
 use Rattle.field.specs.declared.Fault.{Fault}
 use Rattle.field.specs.declared.Parsed.{Parsed}
 use Rattle.field.specs.declared.Parsed.the-variants.{Refused, Taken}
@@ -18,12 +18,12 @@ use Rattle.field.proofs.ChoiceLaws.{by-test}
 use Rattle.field.proofs.OctetsLaws.{decode-at}
 use Rattle.utf8.specs.Utf8.{isUtf8}
 use Rattle.value.specs.Value.{maxValueSize, IsValue, parseLone}
-use Rattle.value.proofs.ValueLaws.{LoneIs, lone-is}
+use Rattle.value.proofs.ValueLaws.{LoneIs, lone-is, lone-place}
 use Rattle.message.specs.Layout.{Entry, WellFormed, maxNameLength}
 use Rattle.message.specs.Reader.{Bytes}
 use Rattle.message.proofs.RefusalLaws.{RefusedRightly, lone-rightly}
 use Rattle.table.specs.Table.{part}
-use Rattle.saved.specs.Form.{entryKind, namePlace, typePlace, numberPlace, valueLengthPlace, valuePlace, entryRecordSize, filled, entryRecord}
+use Rattle.saved.specs.Form.{entryKind, nameLengthPlace, namePlace, typePlace, numberPlace, valueLengthPlace, valuePlace, entryRecordSize, filled, entryRecord}
 use Rattle.saved.specs.Reading.{allZero, nameLengthIn, typeIn, valueLengthIn, entryIn, parseFilling, parseName, parseNamed, parseValueIn, parseValued, parseRecord}
 use Rattle.saved.proofs.ZeroLaws.{zeros}
 
@@ -43,22 +43,22 @@ pub record ValuedFacts (s : List ℕ) : Type 0 where
 
 -- a refusal, and what holds of what is taken
 data NamedIs (s : List ℕ) : Parsed → Type 0 where
-  refused : {fault : Fault} → 1 ≤ fault .number → NamedIs s (Refused fault)
+  refused : {fault : Fault} → 1 ≤ fault .number → fault .place ≤ entryRecordSize → NamedIs s (Refused fault)
   taken : NamedFacts s → NamedIs s (Taken typePlace)
 
 data ValuedIs (s : List ℕ) : Parsed → Type 0 where
-  refused : {fault : Fault} → 1 ≤ fault .number → ValuedIs s (Refused fault)
+  refused : {fault : Fault} → 1 ≤ fault .number → fault .place ≤ entryRecordSize → ValuedIs s (Refused fault)
   taken : ValuedFacts s → ValuedIs s (Taken entryRecordSize)
 
 pub data RecordIs (s : List ℕ) : Parsed → Type 0 where
-  refused : {fault : Fault} → 1 ≤ fault .number → RecordIs s (Refused fault)
+  refused : {fault : Fault} → 1 ≤ fault .number → fault .place ≤ entryRecordSize → RecordIs s (Refused fault)
   taken : NamedFacts s → ValuedFacts s → RecordIs s (Taken entryRecordSize)
 
-no-name : {s : List ℕ} (number place : ℕ) → 1 ≤ number → NamedIs s (Refused (faultAt number place))
-no-name number place h = NamedIs.refused {fault = faultAt number place} h
+no-name : {s : List ℕ} (number place : ℕ) → 1 ≤ number → place ≤ entryRecordSize → NamedIs s (Refused (faultAt number place))
+no-name number place h l = NamedIs.refused {fault = faultAt number place} h l
 
-no-value : {s : List ℕ} (number place : ℕ) → 1 ≤ number → ValuedIs s (Refused (faultAt number place))
-no-value number place h = ValuedIs.refused {fault = faultAt number place} h
+no-value : {s : List ℕ} (number place : ℕ) → 1 ≤ number → place ≤ entryRecordSize → ValuedIs s (Refused (faultAt number place))
+no-value number place h l = ValuedIs.refused {fault = faultAt number place} h l
 
 named-is : (s : List ℕ) → NamedIs s (parseNamed s)
 unfolding parseNamed parseName parseFilling
@@ -67,14 +67,19 @@ named-is s =
     by-test (NamedIs s) _ _ _ (λ kind.
     by-test (NamedIs s) _ _ _ (λ h2.
     by-test (NamedIs s) _ _ _ (λ small.
+    let behind : namePlace + nameLengthIn s ≤ entryRecordSize = short (leb-true _ _ small) in
     by-test (NamedIs s) _ _ _ (λ h3.
     by-test (NamedIs s) _ _ _ (λ text.
     by-test (NamedIs s) _ _ _ (λ h4.
     by-test (NamedIs s) _ _ _ (λ fill.
     NamedIs.taken (record { kind-is = eqb-true _ _ kind; name-small = leb-true _ _ small; name-text = text; name-filled = fill }))
-    (λ _. no-name badFilling _ (omega arith))) (λ _. no-name incomplete _ (omega arith))) (λ _. no-name notUtf8 _ (omega arith)))
-    (λ _. no-name incomplete _ (omega arith))) (λ _. no-name tooLong _ (omega arith))) (λ _. no-name incomplete _ (omega arith)))
-    (λ _. no-name unknownKind _ (omega arith))) (λ _. no-name incomplete _ (omega arith))
+    (λ _. no-name badFilling (namePlace + nameLengthIn s) (omega arith) behind)) (λ _. no-name incomplete (namePlace + nameLengthIn s) (omega arith) behind))
+    (λ _. no-name notUtf8 namePlace (omega arith) (omega arith))) (λ _. no-name incomplete namePlace (omega arith) (omega arith)))
+    (λ _. no-name tooLong nameLengthPlace (omega arith) (omega arith))) (λ _. no-name incomplete nameLengthPlace (omega arith) (omega arith)))
+    (λ _. no-name unknownKind 0 (omega arith) (omega arith))) (λ _. no-name incomplete 0 (omega arith) (omega arith))
+  where
+    short : nameLengthIn s ≤ maxNameLength → namePlace + nameLengthIn s ≤ entryRecordSize
+    short h = omega arith
 
 valued-is : (s : List ℕ) → ValuedIs s (parseValued s)
 unfolding parseValued parseValueIn parseFilling
@@ -85,33 +90,38 @@ valued-is s =
     by-test (ValuedIs s) _ _ _ (λ h3.
     by-test (ValuedIs s) _ _ _ (λ small.
     by-test (ValuedIs s) _ _ _ (λ h4.
-    go (leb-true _ _ small) (parseLone (typeIn s) (part valuePlace (valueLengthIn s) s)) (lone-rightly (typeIn s) (part valuePlace (valueLengthIn s) s))
-    (lone-is (typeIn s) (part valuePlace (valueLengthIn s) s)))
-    (λ _. no-value incomplete _ (omega arith))) (λ _. no-value tooLong _ (omega arith))) (λ _. no-value incomplete _ (omega arith)))
-    (λ _. no-value incomplete _ (omega arith))) (λ _. no-value unknownType _ (omega arith))) (λ _. no-value incomplete _ (omega arith))
+    go (leb-true _ _ small) (parseLone (typeIn s) stored) (lone-rightly (typeIn s) stored) (lone-place (typeIn s) stored) (lone-is (typeIn s) stored))
+    (λ _. no-value incomplete valuePlace (omega arith) (omega arith))) (λ _. no-value tooLong valueLengthPlace (omega arith) (omega arith)))
+    (λ _. no-value incomplete valueLengthPlace (omega arith) (omega arith))) (λ _. no-value incomplete numberPlace (omega arith) (omega arith)))
+    (λ _. no-value unknownType typePlace (omega arith) (omega arith))) (λ _. no-value incomplete typePlace (omega arith) (omega arith))
   where
-    behind : valueLengthIn s ≤ maxValueSize → IsValue (typeIn s) (part valuePlace (valueLengthIn s) s) → ValuedIs s (parseFilling (valuePlace + valueLengthIn s) entryRecordSize s)
+    stored : List ℕ
+    stored = part valuePlace (valueLengthIn s) s
+
+    behind : valueLengthIn s ≤ maxValueSize → IsValue (typeIn s) stored → ValuedIs s (parseFilling (valuePlace + valueLengthIn s) entryRecordSize s)
     behind small v =
+        let short : valuePlace + valueLengthIn s ≤ entryRecordSize = omega arith in
         by-test (ValuedIs s) _ _ _ (λ h.
         by-test (ValuedIs s) _ _ _ (λ fill.
         ValuedIs.taken (record { whole = leb-true _ _ h; value-small = small; value-is = v; value-filled = fill }))
-        (λ _. no-value badFilling _ (omega arith))) (λ _. no-value incomplete _ (omega arith))
+        (λ _. no-value badFilling (valuePlace + valueLengthIn s) (omega arith) short)) (λ _. no-value incomplete (valuePlace + valueLengthIn s) (omega arith) short)
 
-    go : valueLengthIn s ≤ maxValueSize → (r : Parsed) → RefusedRightly r → LoneIs (typeIn s) (part valuePlace (valueLengthIn s) s) r
+    go : valueLengthIn s ≤ maxValueSize → (r : Parsed) → RefusedRightly r → faultOf r .place ≤ length stored → LoneIs (typeIn s) stored r
         → ValuedIs s (andThen Refused (movedBy valuePlace r) (λ n. parseFilling (valuePlace + valueLengthIn s) entryRecordSize s))
-    go small (Refused fault) (RefusedRightly.refused h) LoneIs.refused = no-value (fault .number) _ (h .above)
-    go small (Taken n) h (LoneIs.taken m v) = behind small v
+    go small (Refused fault) (RefusedRightly.refused h) l LoneIs.refused =
+        no-value (fault .number) (valuePlace + fault .place) (h .above) (omega (arith, l, small, length-take (valueLengthIn s) (drop valuePlace s)))
+    go small (Taken n) h l (LoneIs.taken m v) = behind small v
 
 pub record-is : (s : List ℕ) → RecordIs s (parseRecord s)
 unfolding parseRecord
 record-is s = go (parseNamed s) (named-is s)
   where
     end : NamedFacts s → (r : Parsed) → ValuedIs s r → RecordIs s r
-    end f (Refused fault) (ValuedIs.refused h) = RecordIs.refused h
+    end f (Refused fault) (ValuedIs.refused h l) = RecordIs.refused h l
     end f (Taken n) (ValuedIs.taken g) = RecordIs.taken f g
 
     go : (r : Parsed) → NamedIs s r → RecordIs s (andThen Refused r (λ n. parseValued s))
-    go (Refused fault) (NamedIs.refused h) = RecordIs.refused h
+    go (Refused fault) (NamedIs.refused h l) = RecordIs.refused h l
     go (Taken n) (NamedIs.taken f) = end f (parseValued s) (valued-is s)
 
 -- ---- a record and what follows, field by field

@@ -1,25 +1,23 @@
 -- Laws for the code that reads a record: what its parts are read as, by what the code found.
-use mathlib.Core.Path.{_≡_, refl, sym, _∙_}
+use mathlib.Core.Path.{_≡_, sym, _∙_}
 use mathlib.Core.Bool.{Bool, true, false}
 use mathlib.Core.List.{List}
 use Prim.Native.Nat.{ℕ, _+_, _-_, _≤_, _<_}
 use native.Mathlib.Omega.{arith}
-use lib.Dec.{eqb, leb}
+use lib.Dec.{leb}
 use lib.ListN.{length, take, drop}
 use borrow.Author.Tests.{le-leb, lt-leb}
 use Rattle.field.specs.Answer.{incomplete, notUtf8, tooLong, badFilling, unknownType}
 use Rattle.field.specs.Choice.{pick, demand}
-use Rattle.field.specs.Field.{faultAt, faultOf, demandBytes, movedBy, andThen, octetAt, numberAt}
+use Rattle.field.specs.Field.{faultAt, demandBytes, movedBy, octetAt, numberAt}
 use Rattle.field.specs.declared.Fault.{Fault}
 use Rattle.field.specs.declared.Parsed.{Parsed}
 use Rattle.field.specs.declared.Parsed.the-variants.{Refused, Taken}
 use Rattle.field.specs.declared.Octet.the-variants as O
 use Rattle.field.specs.declared.Number.the-variants as N
-use Rattle.field.proofs.ChoiceLaws.{by-test}
 use Rattle.field.proofs.FieldLaws.{octet-there, octet-missing, number-there, number-missing}
 use Rattle.utf8.specs.Utf8.{isUtf8}
-use Rattle.value.specs.Value.{maxValueSize, knownType, parseValue, parseLone}
-use Rattle.value.proofs.ValueLaws.{value-place, value-fits}
+use Rattle.value.specs.Value.{maxValueSize, knownType, parseLone}
 use Rattle.saved.specs.Form.{namePlace, typePlace, numberPlace, valueLengthPlace, valuePlace, entryRecordSize}
 use Rattle.saved.specs.Reading.{nameLengthIn, typeIn, valueLengthIn, allZero, parseFilling, parseName, parseValueIn, parseValued}
 
@@ -62,16 +60,6 @@ module _ (s : List ℕ) (n : ℕ) (sized : n ≡ nameLengthIn s) where
     name-good e = rw (← sized, le-leb (namePlace + n) (length s) there, judged ∙ e)
 
 -- ---- a value of n bytes that was read alone
-
--- the place of a lone value's fault is within it
-pub lone-place : (t : ℕ) (v : List ℕ) → faultOf (parseLone t v) .place ≤ length v
-unfolding parseLone
-lone-place t v = go (parseValue t v) refl (value-place t v)
-  where
-    go : (r : Parsed) → parseValue t v ≡ r → faultOf r .place ≤ length v
-        → faultOf (andThen Refused r (λ n. demand (eqb n (length v)) (Refused (faultAt tooLong n)) (Taken n))) .place ≤ length v
-    go (Refused fault) e h = h
-    go (Taken n) e h = by-test (λ (r : Parsed). faultOf r .place ≤ length v) _ _ _ (λ _. omega arith) (λ _. value-fits t v n e)
 
 module _ (s : List ℕ) (n : ℕ) (sized : n ≡ valueLengthIn s) where
   pub value-missing : length s < valuePlace + n → Refused (faultAt incomplete valuePlace) ≡ parseValueIn s

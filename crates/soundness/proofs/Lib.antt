@@ -3,4 +3,4 @@ pub mod EntryLaws
 pub mod SoundLaws
 pub mod ReadableLaws
 pub mod StoredLaws
-mod FingerprintLaws
+pub mod FingerprintLaws

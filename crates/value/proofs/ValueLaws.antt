@@ -168,3 +168,13 @@ lone-is t v = go (parseValue t v) refl
     go : (r : Parsed) → parseValue t v ≡ r → LoneIs t v (andThen Refused r (λ n. demand (eqb n (length v)) (Refused (faultAt tooLong n)) (Taken n)))
     go (Refused fault) e = LoneIs.refused
     go (Taken n) e = by-test (LoneIs t v) _ _ _ (λ q. LoneIs.taken (eqb-true _ _ q) (e ∙ ap Taken (eqb-true _ _ q))) (λ _. LoneIs.refused)
+
+-- the place of a lone value's fault is within it
+pub lone-place : (t : ℕ) (v : List ℕ) → faultOf (parseLone t v) .place ≤ length v
+unfolding parseLone
+lone-place t v = go (parseValue t v) refl (value-place t v)
+  where
+    go : (r : Parsed) → parseValue t v ≡ r → faultOf r .place ≤ length v
+        → faultOf (andThen Refused r (λ n. demand (eqb n (length v)) (Refused (faultAt tooLong n)) (Taken n))) .place ≤ length v
+    go (Refused fault) e h = h
+    go (Taken n) e h = by-test (λ (r : Parsed). faultOf r .place ≤ length v) _ _ _ (λ _. omega arith) (λ _. value-fits t v n e)

@@ -6,7 +6,8 @@ use lib.ListN.{take, drop, length-take}
 use Rattle.field.specs.Field.{faultOf}
 use Rattle.field.specs.declared.Parsed.{Parsed}
 use Rattle.saved.specs.Form.{valuePlace}
-use Rattle.saved_reader.proofs.RecordLaws.{lone-place, value-missing, value-refused, value-taken}
+use Rattle.value.proofs.ValueLaws.{lone-place}
+use Rattle.saved_reader.proofs.RecordLaws.{value-missing, value-refused, value-taken}
 use borrow.Author.Needs.{needs}
 use Rattle.saved_reader.proofs.read_value.Statement.{statement}
 use Rattle.saved_reader.proofs.read_value.Tie as tie
