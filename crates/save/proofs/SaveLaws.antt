@@ -17,7 +17,8 @@ use Rattle.table.proofs.TabulateLaws.{length-tabulate}
 use Rattle.soundness.specs.Sound.{soundTable}
 use Rattle.saved.specs.Form.{countRecordSize, entryRecordSize, savedSize, countRecord, entryRecord, entryRecords, savedForm}
 use Rattle.saved.specs.Calls.{saveResult, save}
-use Rattle.save.proofs.FormLaws.{length-record, records-more}
+use Rattle.saved.proofs.BackLaws.{length-record}
+use Rattle.save.proofs.FormLaws.{records-more}
 
 -- one zero more
 pub fill-more : (xs : List ℕ) (from j : ℕ) → from ≤ j
