@@ -1,4 +1,4 @@
--- Laws of the saved form: how long its records are, and one entry more.
+-- Laws of the saved form: its fields one behind the other, and one entry more.
 use mathlib.Core.Path.{_≡_, sym}
 use mathlib.Core.List.{List, [], _∷_, _++_, append-assoc, append-nil}
 use Prim.Native.Nat.{ℕ, _+_, _≤_}
@@ -9,20 +9,13 @@ use Rattle.field.specs.Octets.{encode16}
 use Rattle.value.specs.Value.{maxValueSize}
 use Rattle.message.specs.Layout.{Entry, maxNameLength}
 use Rattle.table.specs.Table.{tabulate}
-use Rattle.saved.specs.Form.{entryKind, entryRecordSize, filled, entryRecord, entryRecords}
+use Rattle.saved.specs.Form.{entryKind, filled, entryRecord, entryRecords}
 
 pub length-filled : (size : ℕ) (s : List ℕ) → length s ≤ size → length (filled size s) ≡ size
 unfolding filled
 length-filled size s h = simp (length-append, length-replicate) (omega arith)
 
-pub length-record : (e : Entry) → length (e .name) ≤ maxNameLength → length (e .value) ≤ maxValueSize → length (entryRecord e) ≡ entryRecordSize
-unfolding entryRecord encode16
-length-record e n v =
-    let name = length-filled maxNameLength (e .name) n in
-    let value = length-filled maxValueSize (e .value) v in
-    simp length-append (omega arith)
-
--- its fields, as they are stored one behind the other
+-- an entry's record, its fields stored one behind the other
 pub record-parts : (e : Entry)
     → ((((((entryKind ∷ []) ++ (length (e .name) ∷ [])) ++ filled maxNameLength (e .name)) ++ (e .type ∷ [])) ++ encode16 (e .number)) ++ encode16 (length (e .value)))
     ++ filled maxValueSize (e .value) ≡ entryRecord e

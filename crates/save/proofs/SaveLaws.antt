@@ -1,17 +1,24 @@
 -- Laws of what saving stores.
 use mathlib.Core.Path.{_≡_, refl, _∙_}
+use mathlib.Core.Bool.{true}
 use mathlib.Core.List.{List, [], _∷_, _++_}
 use Prim.Native.Nat.{ℕ, _+_, _-_, _≤_, _<_}
 use native.Mathlib.Omega.{arith}
 use lib.ListN.{length, set, replicate, length-append, length-replicate, replicate-append-replicate}
+use borrow.Author.Tests.{le-leb}
+use Rattle.field.specs.Choice.{pick}
 use Rattle.field.specs.Octets.{overwriteAt}
 use Rattle.field.proofs.OverwriteLaws.{overwrite-append}
+use Rattle.answer.specs.Answers.{doneAnswer}
 use Rattle.message.specs.Layout.{Entry}
-use Rattle.table.specs.Table.{Readable, entryAt, tabulate}
+use Rattle.table.specs.Table.{TableMemory, Readable, entryAt, tabulate, entriesOf}
 use Rattle.table.proofs.SearchLaws.{name-length, value-length, has-name, has-value}
 use Rattle.table.proofs.TabulateLaws.{length-tabulate}
+use Rattle.soundness.specs.Sound.{soundTable}
 use Rattle.saved.specs.Form.{countRecordSize, entryRecordSize, savedSize, countRecord, entryRecord, entryRecords, savedForm}
-use Rattle.save.proofs.FormLaws.{length-record, records-more}
+use Rattle.saved.specs.Calls.{saveResult, save}
+use Rattle.saved.proofs.BackLaws.{length-record}
+use Rattle.save.proofs.FormLaws.{records-more}
 
 -- one zero more
 pub fill-more : (xs : List ℕ) (from j : ℕ) → from ≤ j
@@ -59,3 +66,11 @@ pub form-stored : (f : ℕ → Entry) (start out now : List ℕ) (count i : ℕ)
 unfolding savedForm countRecord
 form-stored f start out now count i e h s =
     store-behind start 0 (countRecord count) out countRecordSize (entryRecords (tabulate i f)) now h refl (s .so-far) ∙ rw (e, length-tabulate count f)
+
+-- ---- the call
+
+-- what is answered and left where the form is stored
+pub form-saved : (limit : ℕ) (m : TableMemory) (out : List ℕ) (size : ℕ) (now : List ℕ) → soundTable limit m ≡ true → size ≡ savedSize (m .count)
+    → savedSize (m .count) ≤ length out → now ≡ overwriteAt out 0 (savedForm (entriesOf m)) → saveResult (doneAnswer 0 0 size) now ≡ save limit m out
+unfolding save pick
+form-saved limit m out size now s e fits h = rw (s, le-leb (savedSize (m .count)) (length out) fits, e, h)

@@ -2,7 +2,7 @@
 use mathlib.Core.Path.{_≡_, sym, _∙_}
 use mathlib.Core.Bool.{true}
 use native.Mathlib.Omega.{arith}
-use borrow.Author.Tests.{le-leb, lt-leb, not-true, not-false}
+use borrow.Author.Tests.{lt-leb, not-true, not-false}
 use lib.ListN.{length}
 use Rattle.field.specs.Choice.{pick}
 use Rattle.table.specs.Table.{TableMemory, tableMemory, maxEntries}
@@ -10,6 +10,7 @@ use Rattle.soundness.specs.Sound.{soundTable}
 use Rattle.soundness.proofs.ReadableLaws.{sound-count, sound-readable}
 use Rattle.saved.specs.Form.{savedSize}
 use Rattle.saved.specs.Calls as calls
+use Rattle.save.proofs.SaveLaws.{form-saved}
 use borrow.Author.Needs.{needs}
 use Rattle.save.proofs.save.Statement.{statement}
 use Rattle.save.proofs.save.Tie as tie
@@ -65,14 +66,16 @@ same-length : tie.Need-same-length
 same-length c = search needs
 
 returns-3 : tie.Need-returns-3
-unfolding calls.save pick to-start
+unfolding to-start
 returns-3 c =
     let f = c .before .before .before in
     let r = f .before .before in
     let z = r .before in
     let e = z .before .before in
-    let a = to-start e .args in
-    rw (c .done .ensures, f .put-form .ensures, z .size-of .ensures, sound e, le-leb (savedSize (a .count .now)) (length (a .out .now)) (omega (arith, z .size-of .ensures, r .if2 .left)))
+    let s = to-start e in
+    rw (c .done .ensures)
+    (form-saved maxEntries (memory s) (s .args .out .now) (z .size-of .result) (f .put-form .last .0) (sound e) (z .size-of .ensures)
+    (omega (arith, z .size-of .ensures, r .if2 .left)) (f .put-form .ensures))
 
 pub save-spec : {M : Type 1} → statement M
 save-spec =
