@@ -30,12 +30,16 @@ returns-2 : tie.Need-returns-2
 returns-2 c =
     let t = c .before in
     let z = t .before in
-    rw (c .fault-at2 .ensures) (filling-bad _ _ _ _ (z .before .before .if1 .left) (z .is-zero .ensures) (not-true _ (t .if2 .taken)))
+    let l = z .before .before in
+    let a = l .before .before .args in
+    rw (c .fault-at2 .ensures) (filling-bad (a .s .now) (a .from) (a .to) _ (l .if1 .left) (z .is-zero .ensures) (not-true _ (t .if2 .taken)))
 
 returns-3 : tie.Need-returns-3
 returns-3 c =
     let z = c .before in
-    filling-good _ _ _ _ (z .before .before .if1 .left) (z .is-zero .ensures) (not-false _ (c .if2 .left))
+    let l = z .before .before in
+    let a = l .before .before .args in
+    filling-good (a .s .now) (a .from) (a .to) _ (l .if1 .left) (z .is-zero .ensures) (not-false _ (c .if2 .left))
 
 pub read-filling-spec : {M : Type 1} → statement M
 read-filling-spec =

@@ -39,7 +39,7 @@ returns-2 c =
     let u = t .before in
     let l = u .before .before in
     let s = l .before .before in
-    rw (c .fault-at2 .ensures) (name-bad _ _ (s .pre .0) _ (l .if1 .left) (u .is-utf8 .ensures) (not-true _ (t .if2 .taken)))
+    rw (c .fault-at2 .ensures) (name-bad (s .args .s .now) _ (s .pre .0) _ (l .if1 .left) (u .is-utf8 .ensures) (not-true _ (t .if2 .taken)))
 
 read-filling-requires : tie.Need-read-filling-requires
 read-filling-requires c κs = search needs
@@ -50,7 +50,7 @@ returns-3 c =
     let u = t .before in
     let l = u .before .before in
     let s = l .before .before in
-    c .read-filling .ensures ∙ name-good _ _ (s .pre .0) _ (l .if1 .left) (u .is-utf8 .ensures) (not-false _ (t .if2 .left))
+    c .read-filling .ensures ∙ name-good (s .args .s .now) _ (s .pre .0) _ (l .if1 .left) (u .is-utf8 .ensures) (not-false _ (t .if2 .left))
 
 pub read-name-spec : {M : Type 1} → statement M
 read-name-spec =

@@ -1,10 +1,13 @@
 -- `read_valued` answers `parseValued`: one law for each return, over the fields that were read.
 use mathlib.Core.Path.{_≡_, sym, _∙_}
+use Prim.Native.Nat.{_<_}
+use native.Mathlib.Omega.{arith}
 use borrow.Author.Tests.{not-true, not-false}
 use Rattle.field.specs.Field.{octetAt, numberAt}
 use Rattle.field.specs.declared.Octet.the-variants as O
 use Rattle.field.specs.declared.Number.the-variants as N
 use Rattle.field.proofs.FieldLaws.{octet-there, number-there}
+use Rattle.value.specs.Value.{maxValueSize}
 use Rattle.saved.specs.Form.{typePlace, numberPlace, valueLengthPlace}
 use Rattle.saved_reader.proofs.RecordLaws.{no-type, other-type, no-number, no-length, too-long, value-next}
 use borrow.Author.Needs.{needs}
@@ -121,8 +124,9 @@ returns-5 c =
     let n = t .before .before in
     let m = to-number n in
     let e = to-known m in
+    let h : maxValueSize < n .value-length .given .0 .0 = omega arith in
     rw (c .fault-at5 .ensures)
-    (too-long _ _ _ (type-is (to-type e)) (e .before .known-type .ensures) (not-false _ (e .if1 .left)) _ (number-is m) _ (length-is n) (t .if2 .taken))
+    (too-long _ _ _ (type-is (to-type e)) (e .before .known-type .ensures) (not-false _ (e .if1 .left)) _ (number-is m) _ (length-is n) h)
 
 read-value-requires : tie.Need-read-value-requires
 unfolding to-start to-type to-known to-number
