@@ -7,11 +7,12 @@ use lib.ListN.{getD}
 use Rattle.field.proofs.ChoiceLaws.{by-test}
 use Rattle.table.specs.Table.{entriesOf}
 use Rattle.protocol.specs.Judge.{Verdict, refuse, acceptHello}
-use Rattle.protocol.specs.Step.{ServerMemory, LentCall, CallResult, execute, callStep, freshStart}
-use Rattle.protocol.specs.Run.{memoryAfterRun, afterStartAndCalls, helloCall, StaysWithoutOwnUpdate}
+use Rattle.protocol.specs.Step.{ServerMemory, LentCall, CallResult, execute, callStep}
+use Rattle.protocol.specs.Run.{memoryAfterRun, helloCall, StaysWithoutOwnUpdate}
 use Rattle.protocol.specs.Kept.{SoundMemory}
-use Rattle.protocol.proofs.SoundnessLaws.{sound-kept, start-sound}
+use Rattle.protocol.proofs.SoundnessLaws.{sound-kept}
 use Rattle.convergence.specs.Beside.{LastHelloCounts}
+use Rattle.convergence.proofs.BeginLaws.{begins-sound}
 use Rattle.convergence.proofs.RunLaws.{sound-run, run-follows}
 use Rattle.convergence.proofs.HelloLaws.{HelloIs, hello-is, hello-accepted}
 
@@ -46,9 +47,9 @@ stays-front limit mem c [] ls q = tt
 stays-front limit mem c (k ∷ ks) ls q = (q .0, stays-front limit (callStep limit mem k .memory) c ks ls (q .1))
 
 pub last-hello-counts : LastHelloCounts
-last-hello-counts limit mem started before c b rest out e some rest′ out′ others q =
-    let now = afterStartAndCalls limit mem before in
-    let s : SoundMemory limit now = sound-run limit (freshStart limit mem .memory) before (start-sound limit mem started) in
+last-hello-counts limit start begins before c b rest out e some rest′ out′ others q =
+    let now = memoryAfterRun limit start before in
+    let s : SoundMemory limit now = sound-run limit start before (begins-sound limit start begins) in
     let next = callStep limit now (helloCall c rest out) .memory in
     let g : getD (next .marks) c 0 ≡ 2 = hello-accepted limit now s c b rest out .at-done e .1 in
     no-second-hello limit (memoryAfterRun limit next some) c rest′ out′

@@ -1,3 +1,4 @@
+pub mod BeginLaws
 pub mod Leads
 pub mod CallLaws
 pub mod RunLaws

@@ -8,14 +8,15 @@ use lib.ListN.{length, getD}
 use Rattle.message.specs.Layout.{Entry}
 use Rattle.table.specs.Table.{TableMemory, entriesOf, defaultEntry}
 use Rattle.soundness.specs.Sound.{soundTable}
-use Rattle.protocol.specs.Step.{ServerMemory, LentCall, callStep, freshStart}
+use Rattle.protocol.specs.Step.{ServerMemory, LentCall, callStep}
 use Rattle.protocol.specs.Copy.{copyFreshStart}
-use Rattle.protocol.specs.Run.{memoryAfterRun, afterStartAndCalls, addressedBytes, helloCall, StaysWithoutOwnUpdate}
+use Rattle.protocol.specs.Run.{memoryAfterRun, addressedBytes, helloCall, StaysWithoutOwnUpdate}
 use Rattle.convergence.specs.Demand.{SameEntries, CopyHoldsServerEntries, Demand3}
 use Rattle.table.proofs.TabulateLaws.{length-entries, entry-get}
 use Rattle.protocol.proofs.CopyLaws.{copy-start-sound}
 use Rattle.protocol.specs.Kept.{SoundMemory}
-use Rattle.protocol.proofs.SoundnessLaws.{sound-kept, start-sound}
+use Rattle.protocol.proofs.SoundnessLaws.{sound-kept}
+use Rattle.convergence.proofs.BeginLaws.{begins-sound}
 use Rattle.convergence.proofs.Leads.{leads-join, leads-end}
 use Rattle.convergence.proofs.RunLaws.{sound-run, run-append, run-follows}
 use Rattle.convergence.proofs.HelloLaws.{hello-accepted}
@@ -40,8 +41,8 @@ since-hello limit mem s c b rest out after e q copy sound empty =
     record { end = reached .end; reads = reached .reads; same = same-entries (reached .end) _ (reached .holds .held) }
 
 pub demand-3 : Demand3
-demand-3 limit mem started before c b rest out e after q copy copy-started =
-    let now = sound-run limit (freshStart limit mem .memory) before (start-sound limit mem started) in
+demand-3 limit start begins before c b rest out e after q copy copy-started =
+    let now = sound-run limit start before (begins-sound limit start begins) in
     let fresh = copy-start-sound limit copy copy-started in
-    rw (run-append limit (freshStart limit mem .memory) before (helloCall c rest out ∷ after))
-    (since-hello limit (afterStartAndCalls limit mem before) now c b rest out after e q (copyFreshStart limit copy .memory) (fresh .0) (fresh .1))
+    rw (run-append limit start before (helloCall c rest out ∷ after))
+    (since-hello limit (memoryAfterRun limit start before) now c b rest out after e q (copyFreshStart limit copy .memory) (fresh .0) (fresh .1))

@@ -25,6 +25,7 @@ use Rattle.protocol.specs.Copy.{copyFreshStart}
 use Rattle.protocol.specs.Run.{memoryAfterRun, afterStartAndCalls, helloCall, StaysWithoutOwnUpdate}
 use Rattle.protocol.specs.Taken.{messageCall}
 use Rattle.protocol.proofs.Computed.{stale, lent}
+use Rattle.convergence.specs.Begin.{Begins}
 use Rattle.convergence.specs.Demand.{CopyHoldsServerEntries}
 use Rattle.delivery.specs.Delivery.{headingBytes, withHeading, messageStep, deliverAtMost, deliver, callsAtMost, callsOf}
 use Rattle.delivery.specs.Sent.{sentByCalls, addressedTo, behindHeadings}
@@ -91,5 +92,5 @@ computed-run =
 
 instance : CopyHoldsServerEntries 2 (copyFreshStart 2 staleCopy .memory) (addressedTo 1 (sentSince 2 fresh before items)) (memoryAfterItems 2 fresh items .table)
 instance =
-    deliveries-demand-3 2 stale (computed-run .started) items before 1 (omega arith) (0 ∷ 7 ∷ 0 ∷ []) (replicate 34 7) after (computed-run .calls) (computed-run .accepted)
+    deliveries-demand-3 2 fresh (Begins.fresh stale (computed-run .started)) items before 1 (omega arith) (0 ∷ 7 ∷ 0 ∷ []) (replicate 34 7) after (computed-run .calls) (computed-run .accepted)
     (computed-run .stays) staleCopy (computed-run .copy-started)

@@ -4,8 +4,8 @@ use mathlib.Core.List.{List, [], _∷_, _++_, append-assoc, append-nil}
 use Prim.Native.Nat.{ℕ}
 use lib.ListN.{length, drop}
 use lib.Seq.{drop-append-seam}
-use Rattle.protocol.specs.Step.{ServerMemory, LentCall, callStep, freshStart}
-use Rattle.protocol.specs.Run.{memoryAfterRun, afterStartAndCalls, addressedBytes, helloCall}
+use Rattle.protocol.specs.Step.{ServerMemory, LentCall, callStep}
+use Rattle.protocol.specs.Run.{memoryAfterRun, addressedBytes, helloCall}
 use Rattle.convergence.proofs.RunLaws.{run-append}
 use Rattle.convergence.proofs.Theorem.{demand-3}
 use Rattle.delivery.specs.Sent.{Sending, sentByCall, sentByCalls, addressedTo}
@@ -55,14 +55,14 @@ items-sent limit mem (x ∷ xs) =
 -- ---- demand 3
 
 pub deliveries-demand-3 : DeliveriesDemand3
-deliveries-demand-3 limit mem started items before c b rest out after calls e stays copy copy-started =
-    let fresh = freshStart limit mem .memory in
+deliveries-demand-3 limit start begins items before c b rest out after calls e stays copy copy-started =
     let since = helloCall c rest out ∷ after in
-    let memory : memoryAfterItems limit fresh items ≡ memoryAfterRun limit fresh (before ++ since) =
-    items-memory limit fresh items ∙ ap (memoryAfterRun limit fresh) calls in
-    let sent : sentSince limit fresh before items ≡ sentByCalls limit (afterStartAndCalls limit mem before) since =
-    ap (drop (length (sentByCalls limit fresh before))) (items-sent limit fresh items ∙ ap (sentByCalls limit fresh) calls ∙ sent-append limit fresh before since)
-    ∙ drop-append-seam (sentByCalls limit fresh before) (sentByCalls limit (afterStartAndCalls limit mem before) since) in
-    let bytes : addressedTo c (sentSince limit fresh before items) ≡ addressedBytes limit (afterStartAndCalls limit mem before) c since =
-    ap (addressedTo c) sent ∙ same-addressed limit (afterStartAndCalls limit mem before) c since in
-    rw (bytes, memory) (demand-3 limit mem started before c b rest out e after stays copy copy-started)
+    let now = memoryAfterRun limit start before in
+    let memory : memoryAfterItems limit start items ≡ memoryAfterRun limit start (before ++ since) =
+    items-memory limit start items ∙ ap (memoryAfterRun limit start) calls in
+    let sent : sentSince limit start before items ≡ sentByCalls limit now since =
+    ap (drop (length (sentByCalls limit start before))) (items-sent limit start items ∙ ap (sentByCalls limit start) calls ∙ sent-append limit start before since)
+    ∙ drop-append-seam (sentByCalls limit start before) (sentByCalls limit now since) in
+    let bytes : addressedTo c (sentSince limit start before items) ≡ addressedBytes limit now c since =
+    ap (addressedTo c) sent ∙ same-addressed limit now c since in
+    rw (bytes, memory) (demand-3 limit start begins before c b rest out e after stays copy copy-started)

@@ -6,9 +6,10 @@ use lib.ListN.{length, drop}
 use Rattle.field.specs.Answer.{done}
 use Rattle.table.specs.Table.{TableMemory}
 use Rattle.soundness.specs.Sound.{connections}
-use Rattle.protocol.specs.Step.{ServerMemory, LentCall, callStep, freshStart}
-use Rattle.protocol.specs.Run.{afterStartAndCalls, helloCall, StaysWithoutOwnUpdate}
+use Rattle.protocol.specs.Step.{ServerMemory, LentCall, callStep}
+use Rattle.protocol.specs.Run.{memoryAfterRun, helloCall, StaysWithoutOwnUpdate}
 use Rattle.protocol.specs.Copy.{copyFreshStart}
+use Rattle.convergence.specs.Begin.{Begins}
 use Rattle.convergence.specs.Demand.{CopyHoldsServerEntries}
 use Rattle.delivery.specs.Delivery.{deliver, callsOf}
 use Rattle.delivery.specs.Sent.{Sending, sentByCall, sentByCalls, sentByDelivery, addressedTo}
@@ -53,19 +54,20 @@ sentSince limit mem before items = drop (length (sentByCalls limit mem before)) 
 abbrev pub DeliveriesDemand3 : Type 0
 DeliveriesDemand3 =
     (limit : ℕ)
-    -- "It begins after a fresh start that answered 0, on memory with any contents."
-    (mem : ServerMemory) → freshStart limit mem .number ≡ done
+    -- "It begins after a fresh start that answered 0, on memory with any contents.";
+    -- "A run in demand 3 may start from a fresh start or from a load that is done."
+    (start : ServerMemory) → Begins limit start
     -- any calls and deliveries, each lent "an output of any length"
     → (items : List Item)
     -- among their calls, one by one: "Its hello is accepted where its message is a hello for 0x0200 and the answer is 0"
     → (before : List LentCall) (c : ℕ) → c < connections → (rest out : List ℕ) (after : List LentCall)
-    → callsOfItems limit (freshStart limit mem .memory) items ≡ before ++ (helloCall c rest out ∷ after)
-    → callStep limit (afterStartAndCalls limit mem before) (helloCall c rest out) .number ≡ done
+    → callsOfItems limit start items ≡ before ++ (helloCall c rest out ∷ after)
+    → callStep limit (memoryAfterRun limit start before) (helloCall c rest out) .number ≡ done
     -- since then it has not left, and no own update of it is applied
-    → StaysWithoutOwnUpdate limit (callStep limit (afterStartAndCalls limit mem before) (helloCall c rest out) .memory) c after
+    → StaysWithoutOwnUpdate limit (callStep limit (memoryAfterRun limit start before) (helloCall c rest out) .memory) c after
     -- "The empty copy is a copy after its fresh start, on large enough memory with any contents."
     → (copy : TableMemory) → copyFreshStart limit copy .number ≡ done
     -- what is addressed to the client "from the accepted hello's call on and with that call" is read, and the copy holds the server's entries
     → CopyHoldsServerEntries limit (copyFreshStart limit copy .memory)
-    (addressedTo c (sentSince limit (freshStart limit mem .memory) before items))
-    (memoryAfterItems limit (freshStart limit mem .memory) items .table)
+    (addressedTo c (sentSince limit start before items))
+    (memoryAfterItems limit start items .table)

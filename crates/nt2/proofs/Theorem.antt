@@ -8,11 +8,13 @@ use lib.ListN.{length, drop}
 use Rattle.field.specs.Answer.{done, ignored}
 use Rattle.field.specs.Place.{WithPlace}
 use Rattle.table.specs.Table.{TableMemory, maxEntries}
-use Rattle.protocol.specs.Step.{ServerMemory, LentCall, CallResult, callStep, freshStart}
-use Rattle.protocol.specs.Run.{memoryAfterRun, afterStartAndCalls, addressedBytes, helloCall, StaysWithoutOwnUpdate}
+use Rattle.protocol.specs.Step.{ServerMemory, LentCall, CallResult, withTable, callStep}
+use Rattle.protocol.specs.Run.{memoryAfterRun, addressedBytes, helloCall, StaysWithoutOwnUpdate}
 use Rattle.soundness.specs.Sound.{connections}
+use Rattle.saved.specs.Calls.{LoadResult, loadResult, load}
 use Rattle.protocol.specs.Copy.{CopyResult, copyMessage, copyFreshStart}
 use Rattle.protocol.proofs.CopyLaws.{copy-progress}
+use Rattle.convergence.specs.Begin.{Begins}
 use Rattle.convergence.specs.Demand.{ReadsInto, none-left, one-read, SameEntries, CopyHoldsServerEntries}
 use Rattle.convergence.proofs.ReadingLaws.{one-end}
 use Rattle.convergence.proofs.RunLaws.{run-append}
@@ -20,7 +22,16 @@ use Rattle.convergence.proofs.Theorem.{demand-3}
 use Rattle.client.specs.declared.Copied.{Copied}
 use Rattle.client.specs.Lent.{copied}
 use Rattle.nt2.specs.Lent.{HeadsTable, HeadsServer, tableOf, serverOf, WithPast, headsCopied, headsCopyMessage}
-use Rattle.nt2.specs.Demand.{Made, made, Run, no-more, called, read, addressed, Stays, Reading, begun, taken, ReadsToSameEntries, ExportedDemand3}
+use Rattle.nt2.specs.Demand.{Begun, Made, made, Run, no-more, called, read, addressed, Stays, Reading, begun, taken, ReadsToSameEntries, ExportedDemand3}
+
+-- ---- what a run begins on
+
+-- the same memory on the numbers of the heads
+pub begins-on : (start : HeadsServer) → Begun start → Begins maxEntries (serverOf start)
+begins-on start (Begun.fresh mem r _ started ok) = rw (started .1) (Begins.fresh (serverOf mem) (rw (started .0) at ok))
+begins-on start (Begun.loaded mem saved r after e ok) =
+    let result : loadResult r (tableOf after) ≡ load maxEntries (tableOf (mem .table)) (mem .marks) saved = ap (λ (x : WithPast LoadResult). x .result) e in
+    subst (λ (x : LoadResult). x .answer .number ≡ done → Begins maxEntries (withTable (serverOf mem) (x .table))) (sym result) (Begins.loaded (serverOf mem) saved) ok
 
 -- ---- a run
 
@@ -88,25 +99,25 @@ module _ (copy : HeadsTable) (bytes : List ℕ) (end : TableMemory) (all : Reads
 -- ---- the theorem
 
 -- on the numbers of the heads
-on-numbers : (mem : ServerMemory) → freshStart maxEntries mem .number ≡ done → (before : List Made) (m : ServerMemory) → Steps (freshStart maxEntries mem .memory) before m
+on-numbers : (start : ServerMemory) → Begins maxEntries start → (before : List Made) (m : ServerMemory) → Steps start before m
     → (c : ℕ) → c < connections → (rest out : List ℕ) (hello : CallResult) → hello .number ≡ done
     → (after : List Made) (end : ServerMemory) → Steps m (made (helloCall c rest out) hello ∷ after) end → Stays c after
     → (copy : TableMemory) → copyFreshStart maxEntries copy .number ≡ done
     → CopyHoldsServerEntries maxEntries (copyFreshStart maxEntries copy .memory) (addressed c (made (helloCall c rest out) hello ∷ after)) (end .table)
 unfolding callsOf
-on-numbers mem started before m run c b rest out hello accepted after end (Steps.step k e more) stays copy copy-started =
+on-numbers start begins before m run c b rest out hello accepted after end (Steps.step k e more) stays copy copy-started =
     let all : Steps m (made (helloCall c rest out) hello ∷ after) end = Steps.step k e more in
-    let now : afterStartAndCalls maxEntries mem (callsOf before) ≡ m = memory-after run in
-    let bytes : addressedBytes maxEntries (afterStartAndCalls maxEntries mem (callsOf before)) c (helloCall c rest out ∷ callsOf after) ≡ addressed c (made (helloCall c rest out) hello ∷ after) =
+    let now : memoryAfterRun maxEntries start (callsOf before) ≡ m = memory-after run in
+    let bytes : addressedBytes maxEntries (memoryAfterRun maxEntries start (callsOf before)) c (helloCall c rest out ∷ callsOf after) ≡ addressed c (made (helloCall c rest out) hello ∷ after) =
     rw now (addressed-is c all) in
-    let memory : afterStartAndCalls maxEntries mem (callsOf before ++ (helloCall c rest out ∷ callsOf after)) ≡ end =
-    run-append maxEntries (freshStart maxEntries mem .memory) (callsOf before) (helloCall c rest out ∷ callsOf after) ∙ rw now (memory-after all) in
+    let memory : memoryAfterRun maxEntries start (callsOf before ++ (helloCall c rest out ∷ callsOf after)) ≡ end =
+    run-append maxEntries start (callsOf before) (helloCall c rest out ∷ callsOf after) ∙ rw now (memory-after all) in
     rw (bytes, memory) at
-    (demand-3 maxEntries mem started (callsOf before) c b rest out (rw (now, ← e) accepted) (callsOf after) (rw now (stays-is c more stays)) copy copy-started)
+    (demand-3 maxEntries start begins (callsOf before) c b rest out (rw (now, ← e) accepted) (callsOf after) (rw now (stays-is c more stays)) copy copy-started)
 
 pub exported-demand-3 : ExportedDemand3
-exported-demand-3 mem start r started ok before m run c b rest out hello accepted after server run′ stays lent copy s copy-started copy-ok =
+exported-demand-3 start begins before m run c b rest out hello accepted after server run′ stays lent copy s copy-started copy-ok =
     let held =
-    on-numbers (serverOf mem) (rw (started .0) at ok) before (serverOf m) (rw (started .1) at (steps-of run)) c b rest out hello accepted after (serverOf server) (steps-of run′) stays
+    on-numbers (serverOf start) (begins-on start begins) before (serverOf m) (steps-of run) c b rest out hello accepted after (serverOf server) (steps-of run′) stays
     (tableOf lent) (rw (copy-started .0) at copy-ok) in
     to-same copy _ (held .end) (rw (copy-started .1) (held .reads)) server (held .same)

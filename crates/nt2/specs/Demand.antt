@@ -14,7 +14,13 @@ use Rattle.protocol.specs.Run.{addressedByCall, helloCall, leavesOrUpdates}
 use Rattle.client.specs.declared.Copied.{Copied}
 use Rattle.flat.specs.declared.ScalarAnswer.{ScalarAnswer}
 use Rattle.convergence.specs.Demand.{SameEntries}
-use Rattle.nt2.specs.Lent.{HeadsTable, HeadsServer, tableOf, serverOf, Started, headsAnswered, headsStep, EntryRead, CopyStarted, headsCopied, headsCopyMessage}
+use Rattle.nt2.specs.Lent.{HeadsTable, HeadsServer, tableOf, serverOf, Started, headsAnswered, headsStep, headsLoaded, headsLoad, EntryRead, CopyStarted, headsCopied, headsCopyMessage}
+
+-- "A run in demand 3 may start from a fresh start or from a load that is done.": the memory that such a call left
+pub data Begun : HeadsServer → Type 0 where
+  fresh : (mem : HeadsServer) (r : Answer) (start : HeadsServer) → Started mem r start → r .number ≡ done → Begun start
+  loaded : (mem : HeadsServer) (saved : List ℕ) (r : Answer) (after : HeadsTable)
+      → headsLoaded r after ≡ headsLoad mem saved → r .number ≡ done → Begun (record { table = after; marks = mem .marks })
 
 -- a call, and what it answered and left
 pub record Made : Type 0 where
@@ -62,8 +68,9 @@ pub record ReadsToSameEntries (copy : HeadsTable) (bytes : List ℕ) (server : H
 -- Demand 3, "a single statement about the whole run"
 abbrev pub ExportedDemand3 : Type 0
 ExportedDemand3 =
-    -- "It begins after a fresh start that answered 0, on memory with any contents."
-    (mem start : HeadsServer) (r : Answer) → Started mem r start → r .number ≡ done
+    -- "It begins after a fresh start that answered 0, on memory with any contents.";
+    -- "A run in demand 3 may start from a fresh start or from a load that is done."
+    (start : HeadsServer) → Begun start
     -- any calls, each lent "an output of any length"
     → (before : List Made) (m : HeadsServer) → Run start before m
     -- "A client is a connection, 0 to 15. Its hello is accepted where its message is a hello for 0x0200 and the answer is 0"

@@ -8,6 +8,7 @@ use Rattle.table.specs.Table.{TableMemory, tableMemory, maxEntries}
 use Rattle.field.specs.Place.{WithPlace}
 use Rattle.answer.specs.Answers.{bareAnswer}
 use Rattle.answer.specs.declared.Answer.{Answer}
+use Rattle.saved.specs.Calls.{LoadResult, loadResult, load}
 use Rattle.protocol.specs.Step.{ServerMemory, LentCall, CallResult, freshStart, readScalar}
 use Rattle.protocol.specs.Copy.{CopyResult, copyFreshStart}
 use Rattle.protocol.specs.Place.{stepWithPlace, copyWithPlace}
@@ -65,6 +66,13 @@ headsAnswered r m out = record { result = answered r (serverOf m) out; past = pa
 -- one call: the step on the numbers of the heads; "memory beyond the table" never changes
 abbrev pub headsStep : HeadsServer → LentCall → WithPast (WithPlace CallResult)
 headsStep m k = record { result = stepWithPlace maxEntries (serverOf m) k; past = pastTable (m .table) }
+
+-- a load
+abbrev pub headsLoaded : Answer → HeadsTable → WithPast LoadResult
+headsLoaded r t = record { result = loadResult r (tableOf t); past = pastTable t }
+
+abbrev pub headsLoad : HeadsServer → (saved : List ℕ) → WithPast LoadResult
+headsLoad m saved = record { result = load maxEntries (tableOf (m .table)) (m .marks) saved; past = pastTable (m .table) }
 
 -- reading an entry
 abbrev pub EntryRead : HeadsTable → (id : ℕ) → ScalarAnswer → HeadsTable → Type 0

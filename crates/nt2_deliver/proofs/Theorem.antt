@@ -11,7 +11,7 @@ use Rattle.delivery.specs.Demand.{Item, single, memoryAfterItems, sentByItems, 
 use Rattle.delivery.specs.Demand as D
 use Rattle.delivery.proofs.Theorem.{deliveries-demand-3}
 use Rattle.nt2.specs.Lent.{HeadsServer, tableOf, serverOf, WithPast}
-use Rattle.nt2.proofs.Theorem.{to-same}
+use Rattle.nt2.proofs.Theorem.{begins-on, to-same}
 use Rattle.nt2_deliver.specs.Demand.{Run, no-more, called, delivery, read, ExportedDeliveriesDemand3}
 
 -- the same run on the numbers of the heads
@@ -48,10 +48,10 @@ on-numbers (delivery {m = m} c input out r output e rest) = delivery-first (serv
 on-numbers (read id r e rest) = rw (e .1) at (on-numbers rest)
 
 pub exported-deliveries-demand-3 : ExportedDeliveriesDemand3
-exported-deliveries-demand-3 mem start r started ok before c b rest out after sent server run accepted stays lent copy s copy-started copy-ok =
-    let o = rw (started .1) at (on-numbers run) in
+exported-deliveries-demand-3 start begins before c b rest out after sent server run accepted stays lent copy s copy-started copy-ok =
+    let o = on-numbers run in
     let held =
-    deliveries-demand-3 maxEntries (serverOf mem) (rw (started .0) at ok) (o .items) before c b rest out after (o .calls-are) (rw (started .1) at accepted) (rw (started .1) at stays)
+    deliveries-demand-3 maxEntries (serverOf start) (begins-on start begins) (o .items) before c b rest out after (o .calls-are) accepted stays
     (tableOf lent) (rw (copy-started .0) at copy-ok) in
     let now = rw (o .sent-are, o .ends-at) at held in
-    rw (started .1) (to-same copy _ (now .end) (rw (copy-started .1) (now .reads)) server (now .same))
+    to-same copy _ (now .end) (rw (copy-started .1) (now .reads)) server (now .same)

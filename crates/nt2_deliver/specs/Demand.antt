@@ -15,8 +15,8 @@ use Rattle.delivery.specs.Sent.{Sending, sentByCall, sentByCalls, sentByDeliver
 use Rattle.deliver.specs.Lent.{delivered}
 use Rattle.deliver.specs.declared.Delivered.{Delivered}
 use Rattle.flat.specs.declared.ScalarAnswer.{ScalarAnswer}
-use Rattle.nt2.specs.Lent.{HeadsTable, HeadsServer, serverOf, Started, headsAnswered, headsStep, EntryRead, CopyStarted}
-use Rattle.nt2.specs.Demand.{ReadsToSameEntries}
+use Rattle.nt2.specs.Lent.{HeadsTable, HeadsServer, serverOf, headsAnswered, headsStep, EntryRead, CopyStarted}
+use Rattle.nt2.specs.Demand.{Begun, ReadsToSameEntries}
 use Rattle.nt2_deliver.specs.Lent.{headsDelivered, headsDelivery}
 
 -- a run from one memory to another, the calls that it counts as, and what it sent by its answers and outputs, each as its promise says:
@@ -36,8 +36,9 @@ pub data Run : HeadsServer → List LentCall → List Sending → HeadsServer �
 -- Demand 3, "a single statement about the whole run"
 abbrev pub ExportedDeliveriesDemand3 : Type 0
 ExportedDeliveriesDemand3 =
-    -- "It begins after a fresh start that answered 0, on memory with any contents."
-    (mem start : HeadsServer) (r : Answer) → Started mem r start → r .number ≡ done
+    -- "It begins after a fresh start that answered 0, on memory with any contents.";
+    -- "A run in demand 3 may start from a fresh start or from a load that is done."
+    (start : HeadsServer) → Begun start
     -- any calls and deliveries, each lent "an output of any length"; among the calls that they count as is an accepted hello:
     -- "its message is a hello for 0x0200 and the answer is 0". A delivery answers no number for each of its messages, so this is said by the step
     → (before : List LentCall) (c : ℕ) → c < connections → (rest out : List ℕ) (after : List LentCall) (sent : List Sending) (server : HeadsServer)
