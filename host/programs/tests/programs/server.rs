@@ -201,10 +201,7 @@ fn notice_says_where_the_fault_is() {
             "9, text is not UTF-8, at byte 15 of the message",
         ),
         (b"\x10\x00\x41", "10, name or value is too long, at byte 1 of the message"),
-        (
-            &[UNKNOWN_KIND],
-            "4, message kind is unknown, or not for this end, at byte 0 of the message",
-        ),
+        (&[UNKNOWN_KIND], "4, kind is unknown, or not for this end, at byte 0 of the message"),
         (
             b"\x10\x00\x02ab\x00\x00\x07",
             "5, assignment ID is not the one allowed, at byte 6 of the message",
