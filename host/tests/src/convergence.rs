@@ -145,7 +145,7 @@ fn copy_of<I: Implementation>(mut bytes: &[u8], seed: u64) -> Result<(Memory, us
 }
 
 /// Counts, types, numbers, names and values of two tables.
-fn same_entries(server: &Memory, copy: &Memory) -> Result<(), String> {
+pub fn same_entries(server: &Memory, copy: &Memory) -> Result<(), String> {
     if server.count() != copy.count() {
         return Err(format!("{} entries, the copy has {}", server.count(), copy.count()));
     }

@@ -2,6 +2,7 @@
 //! they have to find. The programs `differential` and `convergence` go further.
 
 mod wrong_replay;
+mod wrong_saved;
 mod wrong_why;
 
 use nt2_sys::{
@@ -64,6 +65,7 @@ const EQUAL_AS_NUMBERS: usize = 16;
 const COUNT_NOT_COMPARED: usize = 17;
 const FIRST_ELEMENT_COMPARED: usize = 18;
 const WHY: usize = 19;
+const SAVED: usize = 20;
 
 /// The answer to a delivery with one fault.
 fn faulty_delivery<const FAULT: usize>(input: &[u8], room: usize, answer: Delivered) -> Delivered {
@@ -185,6 +187,20 @@ impl<const FAULT: usize> Implementation for Faulty<FAULT> {
             return wrong_why::why(fault, table, marks, connection, message);
         }
         Reference::why(table, marks, connection, message)
+    }
+
+    fn save(table: LentTable<'_>, out: &mut [u8]) -> Answer {
+        if FAULT == SAVED {
+            return wrong_saved::save(*SAVED_FAULT.lock().unwrap(), table, out);
+        }
+        Reference::save(table, out)
+    }
+
+    fn load(table: LentTable<'_>, marks: &mut [u8], saved: &[u8]) -> Answer {
+        if FAULT == SAVED {
+            return wrong_saved::load(*SAVED_FAULT.lock().unwrap(), table, marks, saved);
+        }
+        Reference::load(table, marks, saved)
     }
 
     fn create(
@@ -357,6 +373,25 @@ fn faults_of_reasons_are_found() {
                 | Fault::StringsJudgedAtTheCount
         );
         assert_eq!(found(fault), (true, !in_no_case), "{fault:?}");
+    }
+}
+
+/// The fault with which `Faulty<SAVED>` saves or loads.
+static SAVED_FAULT: Mutex<wrong_saved::Fault> = Mutex::new(wrong_saved::Fault::Nothing);
+
+/// By the differential test, and by the acceptance cases.
+#[test]
+fn faults_of_saved_tables_are_found() {
+    use wrong_saved::Fault;
+    let found = |fault| {
+        *SAVED_FAULT.lock().unwrap() = fault;
+        let cases = run_file::<Faulty<SAVED>>(&folder(), "saved.json").unwrap();
+        let compared = compare::<Reference, Faulty<SAVED>>(BOUNDS);
+        (compared.is_err(), !cases.failures.is_empty())
+    };
+    assert_eq!(found(Fault::Nothing), (false, false));
+    for &fault in Fault::ALL {
+        assert_eq!(found(fault), (true, true), "{fault:?}");
     }
 }
 
