@@ -9,7 +9,7 @@ use nt2_sys::{
     Answer, Copied, DELIVERY_MESSAGES, Delivered, Fields, LentTable, Reason, Replayed, Scalar,
 };
 use nt2_tests::acceptance::{folder, run_file};
-use nt2_tests::convergence::{replayed, run};
+use nt2_tests::convergence::{Run, replayed, run};
 use nt2_tests::differential::{Bounds, compare};
 #[cfg(feature = "library")]
 use nt2_tests::implementation::Library as Tested;
@@ -31,9 +31,13 @@ fn differential() {
 
 #[test]
 fn convergence() {
+    let mut all = Run::default();
     for seed in 0..6 {
-        assert!(run::<Tested, Tested>(seed, 2000).unwrap().compared.clients > 0);
+        let run = run::<Tested, Tested>(seed, 2000).unwrap();
+        assert!(run.compared.clients > 0);
+        all.add(&run);
     }
+    assert!(all.loads == 3 && all.entries_loaded > 0);
 }
 
 #[test]
@@ -393,6 +397,9 @@ fn faults_of_saved_tables_are_found() {
     for &fault in Fault::ALL {
         assert_eq!(found(fault), (true, true), "{fault:?}");
     }
+    // A run that begins with a load finds one too.
+    *SAVED_FAULT.lock().unwrap() = Fault::LastNotStored;
+    assert!(run::<Faulty<SAVED>, Reference>(3, 2000).is_err());
 }
 
 #[test]
