@@ -26,7 +26,7 @@ pub const FILES: [(&str, usize); 11] = [
     ("local.json", 846),
     ("replay.json", 86),
     ("runs.json", 130),
-    ("saved.json", 481),
+    ("saved.json", 485),
     ("unsound.json", 1321),
     ("why.json", 282),
     ("writer.json", 1960),
