@@ -2,7 +2,7 @@
  *
  * The caller lends all memory. A slice is lent as pointer and length; the slices of one call do not
  * overlap, and no pointer is null. A call stays within them, keeps none of them and always returns.
- * A refusal (1 to 14) changes nothing; of a delivery the messages before the refused one stand, of a
+ * A refusal (1 to 15) changes nothing; of a delivery the messages before the refused one stand, of a
  * line record the records before it. A field that an answer does not use is 0 (false).
  */
 #ifndef NT2_H
@@ -29,13 +29,16 @@ enum {
     NT2_LONGEST_HELLO_ANSWER = 20993,
     NT2_HEADING = 6,            /* before what each message of a delivery sends */
     NT2_DELIVERY_MESSAGES = 64, /* at most, in one delivery */
-    NT2_RECORD_DATA = 64        /* bytes that came in, at most, in one record */
+    NT2_RECORD_DATA = 64,       /* bytes that came in, at most, in one record */
+    NT2_SAVED_FIRST = 2,        /* the first record of a saved table */
+    NT2_SAVED_ENTRY = 327,      /* each record behind it */
+    NT2_LONGEST_SAVED = NT2_SAVED_FIRST + NT2_ENTRIES * NT2_SAVED_ENTRY
 };
 
 /* Numbers that a call answers with. */
 enum {
     NT2_DONE = 0,
-    NT2_INCOMPLETE = 1,         /* message, value or record not complete */
+    NT2_INCOMPLETE = 1,         /* message, value, record or saved table not complete */
     NT2_NO_SUCH_CONNECTION = 2, /* connection number above 15 */
     NT2_STATE = 3,              /* connection state does not allow this */
     NT2_KIND = 4,               /* kind of a message or record unknown, or not for this end */
@@ -44,11 +47,13 @@ enum {
     NT2_TYPE = 7,               /* type unknown */
     NT2_NOT_BOOLEAN = 8,        /* Boolean byte not 0 or 1 */
     NT2_NOT_TEXT = 9,           /* text not UTF-8 */
-    NT2_TOO_LONG = 10,          /* name or value too long, or bytes left after a lone value */
+    NT2_TOO_LONG = 10,          /* name or value too long, a saved count too great, or bytes left
+                                   after a lone value or a saved table */
     NT2_FULL = 11,              /* table full */
     NT2_ROOM = 12,              /* output too short */
     NT2_NAME_HELD = 13,         /* name already there */
     NT2_UNSOUND = 14,           /* lent table unsound or too small */
+    NT2_FILLING = 15,           /* filling of a saved name or value is not zero */
     NT2_IGNORED = 16            /* taken, nothing changes, nothing is sent */
 };
 
@@ -88,6 +93,18 @@ enum {
 /* The connection of a record with what the plant's own code did. */
 enum { NT2_PLANT = 16 };
 
+/* Records of a saved table: one of the first kind with the count (1 byte), and one of the second kind
+ * for each entry in the order of IDs. Its fields, with their first byte and their bytes:
+ *   0    1    kind
+ *   1    1    length of the name
+ *   2    64   name, filled with zeros
+ *   66   1    type
+ *   67   2    number, big endian
+ *   69   2    length of the value, big endian
+ *   71   256  value, filled with zeros
+ */
+enum { NT2_SAVED_COUNT_RECORD = 1, NT2_SAVED_ENTRY_RECORD = 2 };
+
 /* How a delivery ended. */
 enum { NT2_ENDED_REFUSED = 0, NT2_ENDED_SPENT = 1, NT2_ENDED_MAX_REACHED = 2 };
 
@@ -120,7 +137,9 @@ typedef struct {
  *       left after a lone value
  * It is 0 for a lent name, which has no length before it, and for a type given as a number. With
  * every other number it is 0.
- * In a delivery it counts from the start of the refused message.
+ * In a delivery it counts from the start of the refused message, in a saved table from its first byte.
+ * There 9 is also at a name's first byte, and 10 at the count, at the length of a name or value, or at
+ * the first byte left: in a value that is longer than what it holds, or behind the last record.
  *
  * With a name and a value (nt2_create, and nt2_encode of an assignment), 9 at 0 is the name's, 10 is
  * the name's if that is longer than 64 bytes, and all else but 7 is the value's.
@@ -291,6 +310,32 @@ nt2_answer nt2_create(nt2_head *heads, size_t heads_length, uint8_t *bytes, size
 nt2_answer nt2_write(nt2_head *heads, size_t heads_length, uint8_t *bytes, size_t bytes_length,
                      uint16_t *count, uint8_t *marks, size_t marks_length, uint16_t id,
                      const uint8_t *value, size_t value_length, uint8_t *out, size_t out_length);
+
+/* Writes the saved form of a server's table or of a copy. Changes nothing but the output, and that
+ * not behind the form.
+ *
+ * It has NT2_SAVED_FIRST bytes and NT2_SAVED_ENTRY for each entry, at most NT2_LONGEST_SAVED, which
+ * `sent` says; with less room it is refused with NT2_ROOM. A table has one saved form, whatever stands
+ * behind its names and values, or in entries that it does not use.
+ */
+nt2_answer nt2_save(nt2_head *heads, size_t heads_length, uint8_t *bytes, size_t bytes_length,
+                    uint16_t *count, uint8_t *out, size_t out_length);
+
+/* Loads a saved table in place of the entries that there are. All of it is judged before anything is
+ * changed. The entries are those that were saved, with their IDs and numbers.
+ *
+ * NT2_UNSOUND comes first, then NT2_STATE if a connection is not closed. Then the bytes are judged
+ * from the first to the last: a field that is not wholly there is NT2_INCOMPLETE. A value is judged
+ * as one of nt2_create, with the length that is saved. NT2_FILLING is judged behind the name or value,
+ * NT2_NAME_HELD (an earlier entry has this name) behind the entry's record, and bytes left behind the
+ * last record are NT2_TOO_LONG. Done, all bytes are taken.
+ *
+ * It changes the count, and of the entries below it heads, names and values alone: filling is not
+ * stored, so bytes behind names and values stay, and so do other entries and the marks.
+ */
+nt2_answer nt2_load(nt2_head *heads, size_t heads_length, uint8_t *bytes, size_t bytes_length,
+                    uint16_t *count, uint8_t *marks, size_t marks_length, const uint8_t *saved,
+                    size_t saved_length);
 
 /* Reads an entry of a server's table or of a copy. Changes nothing. */
 nt2_scalar nt2_read(nt2_head *heads, size_t heads_length, uint8_t *bytes, size_t bytes_length,

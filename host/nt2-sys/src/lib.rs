@@ -34,6 +34,14 @@ pub const RECORD_DATA: usize = 64;
 /// The connection of a record with what the plant's own code did.
 pub const PLANT: usize = CONNECTIONS;
 
+/// Bytes of a saved table's first record: kind and count.
+pub const SAVED_FIRST: usize = 2;
+/// Bytes of a saved entry: kind, the name behind its length, type, number, and the value behind its
+/// length.
+pub const SAVED_ENTRY: usize = 2 + NAME_ROOM + 5 + VALUE_ROOM;
+/// Bytes of the longest saved table.
+pub const LONGEST_SAVED: usize = SAVED_FIRST + ENTRIES * SAVED_ENTRY;
+
 /// `nt2_head`: one entry head.
 #[repr(C)]
 #[derive(Clone, Copy, Debug, Default, PartialEq, Eq)]
@@ -47,8 +55,8 @@ pub struct Head {
 /// `nt2_answer`: number, recipients, bytes taken and sent.
 ///
 /// With the numbers 7 to 10 `place` is that of the first byte of the field that failed, counted from
-/// the start of the message, name or value lent; it is 0 for a type given as a number, and with every
-/// other number.
+/// the start of the message, name, value or saved table lent; it is 0 for a type given as a number,
+/// and with every other number.
 #[repr(C)]
 #[derive(Clone, Copy, Debug, Default, PartialEq, Eq)]
 pub struct Answer {
@@ -281,6 +289,28 @@ mod functions {
             record_length: usize,
         ) -> Replayed;
 
+        pub fn nt2_save(
+            heads: *mut Head,
+            heads_length: usize,
+            bytes: *mut u8,
+            bytes_length: usize,
+            count: *mut u16,
+            out: *mut u8,
+            out_length: usize,
+        ) -> Answer;
+
+        pub fn nt2_load(
+            heads: *mut Head,
+            heads_length: usize,
+            bytes: *mut u8,
+            bytes_length: usize,
+            count: *mut u16,
+            marks: *mut u8,
+            marks_length: usize,
+            saved: *const u8,
+            saved_length: usize,
+        ) -> Answer;
+
         pub fn nt2_create(
             heads: *mut Head,
             heads_length: usize,
@@ -357,6 +387,8 @@ mod functions {
         ) -> Copied;
     }
 }
+
+const _: () = assert!(SAVED_ENTRY == 327 && LONGEST_SAVED == 20_930);
 
 /// Sizes that a C compiler gives these structs on x86-64.
 #[cfg(target_pointer_width = "64")]

@@ -1,7 +1,7 @@
 //! Answers as enums, with the numbers of the build description.
 
 use crate::number::{
-    ASSIGNMENT_ID, DONE, FULL, IGNORED, INCOMPLETE, KIND, NAME_HELD, NO_SUCH_CONNECTION,
+    ASSIGNMENT_ID, DONE, FILLING, FULL, IGNORED, INCOMPLETE, KIND, NAME_HELD, NO_SUCH_CONNECTION,
     NOT_BOOLEAN, NOT_TEXT, ROOM, STATE, TOO_LONG, TYPE, UNKNOWN_ID, UNSOUND,
 };
 use nt2_sys::{Answer, Delivered, NAME_ROOM, Replayed, headed};
@@ -12,13 +12,13 @@ use std::fmt;
 /// its place. It changed no memory.
 #[derive(Clone, Copy, Debug, PartialEq, Eq, Hash)]
 pub enum Refusal {
-    /// Message or value not complete.
+    /// Message, value or saved table not complete.
     Incomplete,
     /// Connection number above 15.
     NoSuchConnection,
     /// Connection state does not allow this.
     State,
-    /// Message kind unknown, or not for this end.
+    /// Kind of a message or saved record unknown, or not for this end.
     Kind,
     /// Assignment ID not the one allowed.
     AssignmentId,
@@ -32,7 +32,8 @@ pub enum Refusal {
     Text(Place),
     /// Name or value too long, or bytes left after a lone value. The place is that of the length of a
     /// name, String or element, of the count of a Double Array, or of the first byte left; for a name
-    /// given without its length, of its first byte.
+    /// given without its length, of its first byte. In a saved table also: too many entries, at their
+    /// count; a value too long, at its length; or bytes left behind the last entry.
     TooLong(Place),
     /// Table full.
     Full,
@@ -42,10 +43,12 @@ pub enum Refusal {
     NameHeld,
     /// Lent table unsound or too small.
     Unsound,
+    /// In a saved table, a byte that fills up a name or value is not zero.
+    Filling,
 }
 
 impl Refusal {
-    /// The refusal with this number, 1 to 14. Those from 7 to 10 need a place, the others have none.
+    /// The refusal with this number, 1 to 15. Those from 7 to 10 need a place, the others have none.
     pub(crate) fn of(number: u8, place: Option<Place>) -> Option<Refusal> {
         Some(match number {
             INCOMPLETE => Refusal::Incomplete,
@@ -62,11 +65,12 @@ impl Refusal {
             ROOM => Refusal::Room,
             NAME_HELD => Refusal::NameHeld,
             UNSOUND => Refusal::Unsound,
+            FILLING => Refusal::Filling,
             _ => return None,
         })
     }
 
-    /// The refusal's number, 1 to 14.
+    /// The refusal's number, 1 to 15.
     pub fn number(self) -> u8 {
         self.number_and_words().0
     }
@@ -84,10 +88,10 @@ impl Refusal {
 
     fn number_and_words(self) -> (u8, &'static str) {
         match self {
-            Refusal::Incomplete => (INCOMPLETE, "message or value is not complete"),
+            Refusal::Incomplete => (INCOMPLETE, "message, value or saved table is not complete"),
             Refusal::NoSuchConnection => (NO_SUCH_CONNECTION, "connection number is above 15"),
             Refusal::State => (STATE, "connection state does not allow this"),
-            Refusal::Kind => (KIND, "message kind is unknown, or not for this end"),
+            Refusal::Kind => (KIND, "kind is unknown, or not for this end"),
             Refusal::AssignmentId => (ASSIGNMENT_ID, "assignment ID is not the one allowed"),
             Refusal::UnknownId => (UNKNOWN_ID, "ID is not in the table"),
             Refusal::Type(_) => (TYPE, "type is unknown"),
@@ -98,10 +102,14 @@ impl Refusal {
             Refusal::TooLong(Place::Value(_)) => {
                 (TOO_LONG, "value is too long, or bytes are left after it")
             }
+            Refusal::TooLong(Place::Saved(_)) => {
+                (TOO_LONG, "count or length is too great, or bytes are left")
+            }
             Refusal::Full => (FULL, "table is full"),
             Refusal::Room => (ROOM, "output is too short"),
             Refusal::NameHeld => (NAME_HELD, "name is already there"),
             Refusal::Unsound => (UNSOUND, "lent table is unsound or too small"),
+            Refusal::Filling => (FILLING, "filling is not zero"),
         }
     }
 }
@@ -128,13 +136,17 @@ pub enum Place {
     Name(usize),
     /// A byte of the encoded value.
     Value(usize),
+    /// A byte of the saved table.
+    Saved(usize),
 }
 
 impl Place {
-    /// The byte, counted from 0 at the start of the message, name or value.
+    /// The byte, counted from 0 at the start of the message, name, value or saved table.
     pub fn byte(self) -> usize {
         match self {
-            Place::Message(byte) | Place::Name(byte) | Place::Value(byte) => byte,
+            Place::Message(byte) | Place::Name(byte) | Place::Value(byte) | Place::Saved(byte) => {
+                byte
+            }
         }
     }
 
@@ -153,6 +165,7 @@ impl fmt::Display for Place {
             Place::Message(_) => "message",
             Place::Name(_) => "name",
             Place::Value(_) => "value",
+            Place::Saved(_) => "saved table",
         };
         write!(f, "byte {} of the {given}", self.byte())
     }
@@ -438,14 +451,14 @@ mod tests {
     #[test]
     fn every_refusal_has_its_number() {
         let place = Some(Place::Value(3));
-        for number in 1..=14 {
+        for number in 1..=15 {
             let refusal = Refusal::of(number, place).unwrap();
             assert_eq!(refusal.number(), number);
             let has_place = (7..=10).contains(&number);
             assert_eq!(refusal.place(), place.filter(|_| has_place));
             assert_eq!(Refusal::of(number, None), Some(refusal).filter(|_| !has_place));
         }
-        assert_eq!((Refusal::of(0, place), Refusal::of(15, place)), (None, None));
+        assert_eq!((Refusal::of(0, place), Refusal::of(16, place)), (None, None));
     }
 
     #[test]
@@ -515,6 +528,11 @@ mod tests {
         assert_eq!(said(text), "text is not UTF-8, at byte 7 of the message");
         let name = Refusal::TooLong(Place::Name(0));
         assert_eq!(said(name), "name is too long, at byte 0 of the name");
+        let saved = Refusal::TooLong(Place::Saved(329));
+        assert_eq!(
+            said(saved),
+            "count or length is too great, or bytes are left, at byte 329 of the saved table"
+        );
         let value = Refusal::TooLong(Place::Value(1));
         assert_eq!(
             said(value),

@@ -51,6 +51,12 @@ impl CopyTable {
         Ok(())
     }
 
+    /// Writes the saved form of the copy, as [`ServerTable::save`](crate::ServerTable::save) does; a
+    /// server's table can load it.
+    pub fn save<'o>(&self, out: &'o mut [u8]) -> Result<&'o [u8], Refusal> {
+        self.memory.save(out)
+    }
+
     /// Reads an entry's value, where it is one number or flag.
     pub fn read(&self, id: u16) -> Result<Scalar, Refusal> {
         self.memory.read(id)

@@ -3,12 +3,12 @@
 use nt2_sys::{
     Answer, Copied, Delivered, Fields, Head, LentTable, Reason, Replayed, Scalar, nt2_copy_fresh,
     nt2_copy_receive, nt2_create, nt2_decode, nt2_deliver, nt2_encode, nt2_fresh, nt2_leave,
-    nt2_open, nt2_read, nt2_receive, nt2_replay, nt2_why, nt2_write,
+    nt2_load, nt2_open, nt2_read, nt2_receive, nt2_replay, nt2_save, nt2_why, nt2_write,
 };
 
 // SAFETY of all calls: each pointer stands beside the length of the slice that it comes from, no
 // two of the slices overlap, and a call stays within them and keeps none of them. What is lent as
-// shared to `nt2_why` and `nt2_read` is only read by them.
+// shared to `nt2_why`, `nt2_save` and `nt2_read` is only read by them.
 
 /// The count is 0 and all connections are closed.
 pub fn fresh(table: LentTable<'_>, marks: &mut [u8]) -> Answer {
@@ -152,6 +152,38 @@ pub fn replay(table: LentTable<'_>, marks: &mut [u8], record: &[u8]) -> Replayed
             marks.len(),
             record.as_ptr(),
             record.len(),
+        )
+    }
+}
+
+/// Writes the saved form of a table. The call only reads the table.
+pub fn save(heads: &[Head], bytes: &[u8], count: &u16, out: &mut [u8]) -> Answer {
+    unsafe {
+        nt2_save(
+            heads.as_ptr().cast_mut(),
+            heads.len(),
+            bytes.as_ptr().cast_mut(),
+            bytes.len(),
+            std::ptr::from_ref(count).cast_mut(),
+            out.as_mut_ptr(),
+            out.len(),
+        )
+    }
+}
+
+/// Loads a saved table.
+pub fn load(table: LentTable<'_>, marks: &mut [u8], saved: &[u8]) -> Answer {
+    unsafe {
+        nt2_load(
+            table.heads.as_mut_ptr(),
+            table.heads.len(),
+            table.bytes.as_mut_ptr(),
+            table.bytes.len(),
+            table.count,
+            marks.as_mut_ptr(),
+            marks.len(),
+            saved.as_ptr(),
+            saved.len(),
         )
     }
 }

@@ -81,6 +81,28 @@
 //! assert_eq!((replay.records, replay.refused), (3, Some(BadRecord::Cut)));
 //! ```
 //!
+//! [`ServerTable::save`] writes the saved form of a table, and [`ServerTable::load`] makes its entries of
+//! such a form. A refusal leaves the entries that there are:
+//!
+//! ```
+//! use nt2::{LONGEST_SAVED, Place, Refusal, ServerTable, Type};
+//!
+//! let mut table = ServerTable::new();
+//! table.create(b"tare", Type::Boolean, &[1], &mut [0; 20])?;
+//! let mut saved = [0; LONGEST_SAVED];
+//! let length = table.save(&mut saved)?.len();
+//! let mut loaded = ServerTable::new();
+//! loaded.load(&saved[..length])?;
+//! assert_eq!(loaded.entry(0), table.entry(0));
+//! // A part of it, and one with a value that is not Boolean.
+//! assert_eq!(loaded.load(&saved[..length - 1]), Err(Refusal::Incomplete));
+//! saved[73] = 7;
+//! let refused = loaded.load(&saved[..length]);
+//! assert_eq!(refused, Err(Refusal::Boolean(Place::Saved(73))));
+//! assert_eq!(loaded.entry(0), table.entry(0));
+//! # Ok::<(), nt2::Refusal>(())
+//! ```
+//!
 //! A [`Refusal`] says what is wrong and, of a bad type, Boolean, text or length, where it stands:
 //!
 //! ```
@@ -110,6 +132,7 @@ pub use memory::Entry;
 pub use message::{Message, Type, decode, encode};
 pub use nt2_sys::{
     CONNECTIONS, DELIVERY_MESSAGES, ENTRIES, HEADING, LONGEST_ASSIGNMENT, LONGEST_HELLO_ANSWER,
-    LONGEST_UPDATE, NAME_ROOM, PLANT, RECORD_DATA, VALUE_ROOM,
+    LONGEST_SAVED, LONGEST_UPDATE, NAME_ROOM, PLANT, RECORD_DATA, SAVED_ENTRY, SAVED_FIRST,
+    VALUE_ROOM,
 };
 pub use server::{ServerTable, Standing, State};

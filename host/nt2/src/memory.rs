@@ -78,6 +78,12 @@ impl Memory {
         })
     }
 
+    pub fn save<'o>(&self, out: &'o mut [u8]) -> Result<&'o [u8], Refusal> {
+        let answer = lent::save(&self.heads, &self.bytes, &self.count, out);
+        is_done(answer.number, None)?;
+        Ok(&out[..answer.sent])
+    }
+
     pub fn why(&self, marks: &[u8], connection: usize, message: &[u8]) -> Reason {
         let Memory { heads, bytes, count } = self;
         Reason::of(lent::why_by_reading(heads, bytes, count, marks, connection, message))

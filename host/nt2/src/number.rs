@@ -15,4 +15,5 @@ pub const FULL: u8 = 11;
 pub const ROOM: u8 = 12;
 pub const NAME_HELD: u8 = 13;
 pub const UNSOUND: u8 = 14;
+pub const FILLING: u8 = 15;
 pub const IGNORED: u8 = 16;

@@ -63,6 +63,20 @@ impl ServerTable {
         Replay::of(lent::replay(self.memory.lend(), &mut self.marks, record))
     }
 
+    /// Writes the table's saved form at the start of the output, and answers it. It has
+    /// [`SAVED_FIRST`](crate::SAVED_FIRST) bytes and [`SAVED_ENTRY`](crate::SAVED_ENTRY) for each entry,
+    /// at most [`LONGEST_SAVED`](crate::LONGEST_SAVED). Connections are not saved.
+    pub fn save<'o>(&self, out: &'o mut [u8]) -> Result<&'o [u8], Refusal> {
+        self.memory.save(out)
+    }
+
+    /// Loads a saved table in place of the entries that there are. All connections have to be closed.
+    /// All of it is judged first: a refusal changes nothing.
+    pub fn load(&mut self, saved: &[u8]) -> Result<(), Refusal> {
+        let answer = lent::load(self.memory.lend(), &mut self.marks, saved);
+        is_done(answer.number, Some(Place::Saved(answer.place))).map(|_| ())
+    }
+
     /// Opens a closed connection.
     pub fn open(&mut self, connection: usize) -> Result<(), Refusal> {
         let answer = lent::open(self.memory.lend(), &mut self.marks, connection);
@@ -119,8 +133,8 @@ impl ServerTable {
         Standing { numbers: self.memory.numbers(), marks: self.marks }
     }
 
-    /// A copy of the table as it stood earlier, though not before its last fresh start, with the values
-    /// of now. [`why`](Self::why) answers there as it did then, and goes on to do so behind the messages
+    /// A copy of the table as it stood earlier, though not before its last fresh start or load, with the
+    /// values of now. [`why`](Self::why) answers there as it did then, and goes on to do so behind the messages
     /// that were received since.
     pub fn back_to(&self, standing: &Standing) -> Self {
         ServerTable { memory: self.memory.with_numbers(&standing.numbers), marks: standing.marks }

@@ -2,9 +2,9 @@
 
 use nt2::{
     BadRecord, CONNECTIONS, Copied, CopyTable, DELIVERY_MESSAGES, Delivery, ENTRIES, Ended,
-    HEADING, LONGEST_ASSIGNMENT, LONGEST_HELLO_ANSWER, Message, PLANT, Place, RECORD_DATA, Reason,
-    Received, Recipients, Refusal, Replay, Scalar, ServerTable, State, Type, Written, decode,
-    encode,
+    HEADING, LONGEST_ASSIGNMENT, LONGEST_HELLO_ANSWER, LONGEST_SAVED, Message, PLANT, Place,
+    RECORD_DATA, Reason, Received, Recipients, Refusal, Replay, SAVED_ENTRY, SAVED_FIRST, Scalar,
+    ServerTable, State, Type, Written, decode, encode,
 };
 
 const STREAM: [u8; 26] = [
@@ -398,6 +398,156 @@ fn line_record_ends_at_a_refusal_and_what_came_before_stands() {
         assert_eq!(replay, Replay { records: 2, refused: Some(refused) }, "{bad:?}");
         assert_eq!(table.state(5), Some(State::Greeted));
     }
+}
+
+/// An entry's record in a saved table.
+fn saved_entry(name: &[u8], value_type: Type, number: u16, value: &[u8]) -> Vec<u8> {
+    let mut record = vec![0; SAVED_ENTRY];
+    (record[0], record[1]) = (2, name.len() as u8);
+    record[2..][..name.len()].copy_from_slice(name);
+    record[66] = value_type.code();
+    record[67..69].copy_from_slice(&number.to_be_bytes());
+    record[69..71].copy_from_slice(&(value.len() as u16).to_be_bytes());
+    record[71..][..value.len()].copy_from_slice(value);
+    record
+}
+
+fn saved(entries: &[Vec<u8>]) -> Vec<u8> {
+    [&[1, entries.len() as u8], &entries.concat()[..]].concat()
+}
+
+/// The saved form of a table with all types, and another number for the first entry.
+fn all_types() -> Vec<u8> {
+    saved(&[
+        saved_entry(b"tare", Type::Boolean, 65_535, &[1]),
+        saved_entry(b"", Type::Double, 1, &f64::NAN.to_be_bytes()),
+        saved_entry(&[b'n'; 64], Type::String, 0x0102, &[&[0, 254][..], &[b'v'; 254]].concat()),
+        saved_entry(b"\0", Type::BooleanArray, 0, &[&[255][..], &[1; 255]].concat()),
+        saved_entry(b"tar", Type::DoubleArray, 1, &[0]),
+        saved_entry("tar\u{e9}".as_bytes(), Type::StringArray, 1, b"\x02\0\0\0\x01a"),
+    ])
+}
+
+#[test]
+fn saved_and_loaded() {
+    let mut out = [0; LONGEST_SAVED];
+    let (form, mut table) = (all_types(), ServerTable::new());
+    assert_eq!(form.len(), SAVED_FIRST + 6 * SAVED_ENTRY);
+    table.load(&form).unwrap();
+    assert_eq!(table.save(&mut out), Ok(&form[..]));
+    let entry = table.entry(0).unwrap();
+    assert_eq!((entry.name, entry.value_type), (&b"tare"[..], Type::Boolean));
+    assert_eq!((entry.number, entry.value), (65_535, &[1][..]));
+    assert_eq!((table.count(), table.entry(5).unwrap().name), (6, "tar\u{e9}".as_bytes()));
+    // The next write goes on from the saved number.
+    let Ok(Written::Done(sent)) = table.write(0, &[0], &mut out) else {
+        panic!("another value");
+    };
+    assert_eq!(sent.bytes, [0x11, 0, 0, 0, 0, 0]);
+}
+
+#[test]
+fn a_table_has_one_saved_form() {
+    let mut out = [0xA5; LONGEST_SAVED];
+    let mut table = ServerTable::new();
+    // What an earlier table leaves in memory is not saved.
+    table.load(&all_types()).unwrap();
+    assert_eq!(table.load(&[1, 0]), Ok(()));
+    assert_eq!(table.save(&mut out), Ok(&[1, 0][..]));
+    table.create(b"t", Type::Boolean, &[0], &mut [0; 20]).unwrap();
+    let form = saved(&[saved_entry(b"t", Type::Boolean, 1, &[0])]);
+    assert_eq!(table.save(&mut out), Ok(&form[..]));
+    assert!(out[form.len()..].iter().all(|&byte| byte == 0xA5));
+    // It has to have room.
+    assert_eq!(table.save(&mut out[..form.len()]), Ok(&form[..]));
+    assert_eq!(table.save(&mut out[..form.len() - 1]), Err(Refusal::Room));
+}
+
+#[test]
+fn a_copy_is_saved_as_the_table_is() {
+    let mut out = [0; LONGEST_HELLO_ANSWER];
+    let (mut table, mut copy) = (ServerTable::new(), CopyTable::new());
+    table.load(&all_types()).unwrap();
+    table.open(5).unwrap();
+    let Ok(Received::Done { sent, .. }) = table.receive(5, &STREAM[..3], &mut out) else {
+        panic!("an accepted hello");
+    };
+    copy.receive_all(sent.bytes).unwrap();
+    assert_eq!(copy.save(&mut [0; LONGEST_SAVED]), Ok(&all_types()[..]));
+    assert_eq!(copy.save(&mut []), Err(Refusal::Room));
+}
+
+#[test]
+fn a_load_asks_that_connections_are_closed() {
+    let mut table = with_tare();
+    let before = table.clone();
+    assert_eq!(table.load(&[]), Err(Refusal::State));
+    assert_eq!(table.load(&all_types()), Err(Refusal::State));
+    assert_same(&table, &before);
+    table.leave(1).unwrap();
+    table.leave(3).unwrap();
+    table.load(&all_types()).unwrap();
+    assert_eq!((table.count(), table.state(3)), (6, Some(State::Closed)));
+}
+
+/// Where the second of two saved entries starts, and which of its bytes, changed to what, is refused
+/// and how. It is the String "b" with the value "cd".
+const SECOND: usize = SAVED_FIRST + SAVED_ENTRY;
+const REFUSED_SAVED: [(usize, u8, Refusal); 17] = [
+    (0, 2, Refusal::Kind),
+    (0, 3, Refusal::Kind),
+    (1, 65, Refusal::TooLong(Place::Saved(1))),
+    (1, 1, Refusal::TooLong(Place::Saved(SECOND))),
+    (1, 3, Refusal::Incomplete),
+    (SECOND, 1, Refusal::Kind),
+    (SECOND + 1, 65, Refusal::TooLong(Place::Saved(SECOND + 1))),
+    (SECOND + 1, 0, Refusal::Filling),
+    (SECOND + 2, 0xFF, Refusal::Text(Place::Saved(SECOND + 2))),
+    (SECOND + 2, b'a', Refusal::NameHeld),
+    (SECOND + 65, 1, Refusal::Filling),
+    (SECOND + 66, 3, Refusal::Type(Place::Saved(SECOND + 66))),
+    (SECOND + 66, 0, Refusal::TooLong(Place::Saved(SECOND + 72))),
+    (SECOND + 69, 2, Refusal::TooLong(Place::Saved(SECOND + 69))),
+    (SECOND + 70, 3, Refusal::Incomplete),
+    (SECOND + 74, 0x80, Refusal::Text(Place::Saved(SECOND + 73))),
+    (SECOND + 326, 1, Refusal::Filling),
+];
+
+#[test]
+fn saved_tables_that_are_refused() {
+    let form = saved(&[
+        saved_entry(b"a", Type::Boolean, 1, &[1]),
+        saved_entry(b"b", Type::String, 1, b"\0\x02cd"),
+    ]);
+    let mut table = ServerTable::new();
+    table.load(&all_types()).unwrap();
+    let before = table.clone();
+    for (byte, changed, refusal) in REFUSED_SAVED {
+        let mut bad = form.clone();
+        bad[byte] = changed;
+        assert_eq!(table.load(&bad), Err(refusal), "{changed} at {byte}");
+        assert_same(&table, &before);
+    }
+    (0..form.len()).for_each(|cut| assert_eq!(table.load(&form[..cut]), Err(Refusal::Incomplete)));
+    let more = [&form[..], &[0]].concat();
+    assert_eq!(table.load(&more), Err(Refusal::TooLong(Place::Saved(form.len()))));
+    assert_same(&table, &before);
+    assert_eq!(table.load(&form), Ok(()));
+}
+
+#[test]
+fn a_full_table_is_saved_and_loaded() {
+    let mut out = [0; LONGEST_SAVED];
+    let entry = |id: usize| saved_entry(format!("{id:064}").as_bytes(), Type::Boolean, 1, &[0]);
+    let mut entries: Vec<_> = (0..ENTRIES).map(entry).collect();
+    let form = saved(&entries);
+    let mut table = ServerTable::new();
+    table.load(&form).unwrap();
+    assert_eq!((form.len(), table.save(&mut out)), (LONGEST_SAVED, Ok(&form[..])));
+    let full = table.create(b"", Type::Boolean, &[0], &mut out);
+    assert_eq!(full, Err(Refusal::Full));
+    entries.push(entry(ENTRIES));
+    assert_eq!(table.load(&saved(&entries)), Err(Refusal::TooLong(Place::Saved(1))));
 }
 
 // Doubles for which equal numbers and equal bytes are not the same.

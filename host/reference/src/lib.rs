@@ -10,6 +10,7 @@ extern crate alloc;
 
 mod output;
 mod replay;
+mod saved;
 mod server;
 mod table;
 mod why;
@@ -17,6 +18,7 @@ mod wire;
 
 use nt2_sys::{Answer, Copied, Fields, LentTable, Scalar};
 pub use replay::replay;
+pub use saved::{load, save};
 pub use server::{create, deliver, fresh, leave, open, receive, write};
 use table::Table;
 pub use why::why;

@@ -15,7 +15,7 @@ pub const REVISION: u16 = 0x0200;
 /// The ID in a client's assignment.
 pub const NO_ID: u16 = 0xFFFF;
 
-/// The numbers 1 to 14 of an answer.
+/// The numbers 1 to 15 of an answer.
 #[derive(Clone, Copy, Debug, PartialEq, Eq)]
 #[repr(u8)]
 pub enum Refusal {
@@ -33,6 +33,7 @@ pub enum Refusal {
     Room = 12,
     NameHeld = 13,
     Unsound = 14,
+    Filling = 15,
 }
 
 /// A refusal's number and place: with 7 to 10 that of the first byte of the field that failed.
@@ -97,7 +98,8 @@ impl<'a> Reader<'a> {
         Reader { bytes, at: 0 }
     }
 
-    fn take(&mut self, length: usize) -> Judged<&'a [u8]> {
+    /// The next field, if it is wholly there.
+    pub fn take(&mut self, length: usize) -> Judged<&'a [u8]> {
         let field = self.bytes[self.at..].get(..length).ok_or(Refusal::Incomplete)?;
         self.at += length;
         Ok(field)

@@ -201,10 +201,7 @@ fn notice_says_where_the_fault_is() {
             "9, text is not UTF-8, at byte 15 of the message",
         ),
         (b"\x10\x00\x41", "10, name or value is too long, at byte 1 of the message"),
-        (
-            &[UNKNOWN_KIND],
-            "4, message kind is unknown, or not for this end, at byte 0 of the message",
-        ),
+        (&[UNKNOWN_KIND], "4, kind is unknown, or not for this end, at byte 0 of the message"),
         (
             b"\x10\x00\x02ab\x00\x00\x07",
             "5, assignment ID is not the one allowed, at byte 6 of the message",
@@ -489,6 +486,9 @@ fn notices_of_ignored_messages_are_dropped_and_counted() {
         writer.send_bytes(&[&[KEEP_ALIVE], &ignored[..], &applied].concat());
         reader.expect(id, number);
     }
+    // What a delivery has for the clients is sent before its notices wait. With this one sent, those of
+    // all before it do.
+    writer.create("last", Type::Boolean, &[0]);
     drop(not_taking);
     let (taken, dropped) = taken_and_dropped(&server);
     // Two of them say that the clients were opened.
