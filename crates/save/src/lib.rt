@@ -9,7 +9,7 @@ use saved::TYPE_PLACE;
 use saved::VALUE_LENGTH_PLACE;
 use saved::VALUE_PLACE;
 ghost use mathlib.Core.Path.{_≡_};
-ghost use Prim.Native.Nat.{_+_, _-_, _*_, _≤_, _<_};
+ghost use Prim.Native.Nat.{_+_, _≤_, _<_};
 ghost use lib.ListN.{length, replicate};
 ghost use Rattle.field.specs.Octets.{overwriteAt};
 ghost use Rattle.value.specs.Value.{maxValueSize};
@@ -19,28 +19,26 @@ ghost use Rattle.table.specs.Table.{Readable, entryAt, lent, entriesOf, maxEntr
 ghost use Rattle.saved.specs.Form.{countRecordSize, entryRecordSize, savedSize, filled, countRecord, entryRecord, savedForm};
 ghost use Rattle.saved.specs.Calls as calls;
 
-// Stores zeros from one place up to another.
-fn fill(out: &mut [u8], from: usize, to: usize)
-    requires { ⌜ (from ≤ to) × (to ≤ length (now out)) ⌝ }
-    ensures { λ _. ⌜ now (out .exit) ≡ overwriteAt (now (out .entry)) from (replicate (to - from) 0) ⌝ }
+// Stores so many zeros from a place on.
+fn clear(out: &mut [u8], at: usize, n: usize)
+    requires { ⌜ at + n ≤ length (now out) ⌝ }
+    ensures { λ _. ⌜ now (out .exit) ≡ overwriteAt (now (out .entry)) at (replicate n 0) ⌝ }
 {
-    let mut j = from;
-    while j < to {
-        out[j] = 0;
+    let mut j = 0;
+    while j < n {
+        out[at + j] = 0;
         j += 1;
     }
 }
 
-// Stores bytes from a place on, filled with zeros to a size.
+// Stores bytes from a place on, filled with zeros to a size. All of it is cleared first: a fixed number of bytes, which the compiler stores at once.
 fn put_filled(out: &mut [u8], at: usize, s: &[u8], size: usize)
     requires bytes { ⌜ length (now s) ≤ size ⌝ }
     requires room { ⌜ at + size ≤ length (now out) ⌝ }
     ensures { λ _. ⌜ now (out .exit) ≡ overwriteAt (now (out .entry)) at (filled size (now (s .entry))) ⌝ }
 {
-    let end = at + s.len();
-    let filled_end = at + size;
+    clear(out, at, size);
     field::copy_into(out, at, s);
-    fill(out, end, filled_end);
 }
 
 // Stores an entry's record from a place on.
