@@ -31,14 +31,27 @@ fn clear(out: &mut [u8], at: usize, n: usize)
     }
 }
 
-// Stores bytes from a place on, filled with zeros to a size. All of it is cleared first: a fixed number of bytes, which the compiler stores at once.
-fn put_filled(out: &mut [u8], at: usize, s: &[u8], size: usize)
-    requires bytes { ⌜ length (now s) ≤ size ⌝ }
-    requires room { ⌜ at + size ≤ length (now out) ⌝ }
-    ensures { λ _. ⌜ now (out .exit) ≡ overwriteAt (now (out .entry)) at (filled size (now (s .entry))) ⌝ }
+// Stores a name from a place on, filled with zeros. Its room is cleared first: a fixed number of bytes, which the compiler stores at once.
+fn put_name(out: &mut [u8], at: usize, name: &[u8])
+    requires name { ⌜ length (now name) ≤ maxNameLength ⌝ }
+    requires room { ⌜ at + maxNameLength ≤ length (now out) ⌝ }
+    ensures { λ _. ⌜ now (out .exit) ≡ overwriteAt (now (out .entry)) at (filled maxNameLength (now (name .entry))) ⌝ }
 {
-    clear(out, at, size);
-    field::copy_into(out, at, s);
+    clear(out, at, table::NAME_SIZE);
+    field::copy_into(out, at, name);
+}
+
+// Stores a value from a place on, filled with zeros. Its room is large: what is behind it alone is cleared.
+fn put_value(out: &mut [u8], at: usize, value: &[u8])
+    requires value { ⌜ length (now value) ≤ maxValueSize ⌝ }
+    requires room { ⌜ at + maxValueSize ≤ length (now out) ⌝ }
+    ensures { λ _. ⌜ now (out .exit) ≡ overwriteAt (now (out .entry)) at (filled maxValueSize (now (value .entry))) ⌝ }
+{
+    let n = value.len();
+    let end = at + n;
+    let left = table::VALUE_SIZE - n;
+    field::copy_into(out, at, value);
+    clear(out, end, left);
 }
 
 // Stores an entry's record from a place on.
@@ -53,11 +66,11 @@ fn put_record(out: &mut [u8], at: usize, name: &[u8], type_code: u8, number: u16
     let value_length = value.len() as u16;
     field::put_u8(out, at, ENTRY_KIND);
     field::put_u8(out, at + NAME_LENGTH_PLACE, name_length);
-    put_filled(out, at + NAME_PLACE, name, table::NAME_SIZE);
+    put_name(out, at + NAME_PLACE, name);
     field::put_u8(out, at + TYPE_PLACE, type_code);
     field::put_u16(out, at + NUMBER_PLACE, number);
     field::put_u16(out, at + VALUE_LENGTH_PLACE, value_length);
-    put_filled(out, at + VALUE_PLACE, value, table::VALUE_SIZE);
+    put_value(out, at + VALUE_PLACE, value);
 }
 
 // Stores the record of entry i at its place.

@@ -30,11 +30,11 @@ add-put-u8 c = search needs
 put-u8-requires-2 : tie.Need-put-u8-requires-2
 put-u8-requires-2 c κs = search needs
 
-add-put-filled : tie.Need-add-put-filled
-add-put-filled c = search needs
+add-put-name : tie.Need-add-put-name
+add-put-name c = search needs
 
-put-filled-requires : tie.Need-put-filled-requires
-put-filled-requires c κs = search needs
+put-name-requires : tie.Need-put-name-requires
+put-name-requires c κs = search needs
 
 add-put-u8-2 : tie.Need-add-put-u8-2
 add-put-u8-2 c = search needs
@@ -54,11 +54,11 @@ add-put-u16-2 c = search needs
 put-u16-requires-2 : tie.Need-put-u16-requires-2
 put-u16-requires-2 c κs = search needs
 
-add-put-filled-2 : tie.Need-add-put-filled-2
-add-put-filled-2 c = search needs
+add-put-value : tie.Need-add-put-value
+add-put-value c = search needs
 
-put-filled-requires-2 : tie.Need-put-filled-requires-2
-put-filled-requires-2 c κs = search needs
+put-value-requires : tie.Need-put-value-requires
+put-value-requires c κs = search needs
 
 same-length : tie.Need-same-length
 same-length c = search needs
@@ -88,11 +88,11 @@ returns c =
     let l5 : length b5 ≡ valueLengthPlace = omega (arith, length-append b4 (encode16 (a .number)), l4, length-encode16 (a .number)) in
     let l6 : length b6 ≡ valuePlace = omega (arith, length-append b5 (encode16 (length value)), l5, length-encode16 (length value)) in
     let s2 = store-behind out at (entryKind ∷ []) (c1 .put-u8 .last .0) (at + nameLengthPlace) (length name ∷ []) (c2 .put-u82 .last .0) (c1 .put-u8 .ensures) refl (c2 .put-u82 .ensures) in
-    let s3 = store-behind out at b2 (c2 .put-u82 .last .0) (at + namePlace) (filled maxNameLength name) (c3 .put-filled .last .0) s2 refl (c3 .put-filled .ensures) in
-    let s4 = store-behind out at b3 (c3 .put-filled .last .0) (at + typePlace) (a .type-code ∷ []) (c4 .put-u83 .last .0) s3 (omega (arith, l3)) (c4 .put-u83 .ensures) in
+    let s3 = store-behind out at b2 (c2 .put-u82 .last .0) (at + namePlace) (filled maxNameLength name) (c3 .put-name .last .0) s2 refl (c3 .put-name .ensures) in
+    let s4 = store-behind out at b3 (c3 .put-name .last .0) (at + typePlace) (a .type-code ∷ []) (c4 .put-u83 .last .0) s3 (omega (arith, l3)) (c4 .put-u83 .ensures) in
     let s5 = store-behind out at b4 (c4 .put-u83 .last .0) (at + numberPlace) (encode16 (a .number)) (c5 .put-u16 .last .0) s4 (omega (arith, l4)) (c5 .put-u16 .ensures) in
     let s6 = store-behind out at b5 (c5 .put-u16 .last .0) (at + valueLengthPlace) (encode16 (length value)) (c6 .put-u162 .last .0) s5 (omega (arith, l5)) (c6 .put-u162 .ensures) in
-    let s7 = store-behind out at b6 (c6 .put-u162 .last .0) (at + valuePlace) (filled maxValueSize value) (c7 .put-filled2 .last .0) s6 (omega (arith, l6)) (c7 .put-filled2 .ensures) in
+    let s7 = store-behind out at b6 (c6 .put-u162 .last .0) (at + valuePlace) (filled maxValueSize value) (c7 .put-value .last .0) s6 (omega (arith, l6)) (c7 .put-value .ensures) in
     let e : Entry = record { name = name; type = a .type-code; number = a .number; value = value } in
     rw (record-parts e) at s7
 
@@ -105,15 +105,15 @@ put-record-spec =
     put-u8-requires
     add-put-u8
     put-u8-requires-2
-    add-put-filled
-    put-filled-requires
+    add-put-name
+    put-name-requires
     add-put-u8-2
     put-u8-requires-3
     add-put-u16
     put-u16-requires
     add-put-u16-2
     put-u16-requires-2
-    add-put-filled-2
-    put-filled-requires-2
+    add-put-value
+    put-value-requires
     same-length
     returns)
