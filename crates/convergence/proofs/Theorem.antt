@@ -21,7 +21,7 @@ use Rattle.convergence.proofs.Leads.{leads-join, leads-end}
 use Rattle.convergence.proofs.RunLaws.{sound-run, run-append, run-follows}
 use Rattle.convergence.proofs.HelloLaws.{hello-accepted}
 
-same-entries : (a b : TableMemory) → entriesOf a ≡ entriesOf b → SameEntries a b
+pub same-entries : (a b : TableMemory) → entriesOf a ≡ entriesOf b → SameEntries a b
 same-entries a b e =
     let n : a .count ≡ b .count = sym (length-entries a) ∙ ap length e ∙ length-entries b in
     record { counts = n; entries = λ id l. sym (entry-get a id defaultEntry (omega arith)) ∙ ap (λ (es : List Entry). getD es id defaultEntry) e ∙ entry-get b id defaultEntry l }

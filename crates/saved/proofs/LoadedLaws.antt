@@ -48,15 +48,16 @@ module _ (limit : ℕ) (m : TableMemory) (s : soundTable limit m ≡ true) where
 
 -- ---- saving
 
-record SaveDone (m : TableMemory) (out : List ℕ) (r : SaveResult) : Type 0 where
-  at-done : r .answer .number ≡ 0 → Saved m out r
+record SaveDone (limit : ℕ) (m : TableMemory) (out : List ℕ) (r : SaveResult) : Type 0 where
+  at-done : r .answer .number ≡ 0 → Saved limit m out r
 
 -- a form that fits stands first in the output, and the rest is unchanged
-written : (m : TableMemory) (out form : List ℕ) → form ≡ savedForm (entriesOf m) → length form ≡ savedSize (m .count) → length form ≤ length out
-    → Saved m out (saveResult (doneAnswer 0 0 (savedSize (m .count))) (overwriteAt out 0 form))
-written m out form e n l =
+written : (limit : ℕ) (m : TableMemory) → soundTable limit m ≡ true → (out form : List ℕ) → form ≡ savedForm (entriesOf m) → length form ≡ savedSize (m .count) → length form ≤ length out
+    → Saved limit m out (saveResult (doneAnswer 0 0 (savedSize (m .count))) (overwriteAt out 0 form))
+written limit m s out form e n l =
     let all : overwriteAt out 0 form ≡ form ++ drop (length form) out = rw zero-add at (overwrite-eq out 0 form (omega arith)) in
     record {
+      table-sound = s;
       size = refl;
       form = rw all (take-at form (drop (length form) out) (savedSize (m .count)) n) ∙ e;
       rest = rw all (drop-at form (drop (length form) out) (savedSize (m .count)) n) ∙ ap (λ (k : ℕ). drop k out) n;
@@ -66,12 +67,12 @@ pub save-gives-form : SaveGivesForm
 unfolding save
 save-gives-form limit m out = step .at-done
   where
-    step : SaveDone m out (save limit m out)
+    step : SaveDone limit m out (save limit m out)
     step =
-        by-test (SaveDone m out) _ _ _ (λ s.
-        by-test (SaveDone m out) _ _ _
+        by-test (SaveDone limit m out) _ _ _ (λ s.
+        by-test (SaveDone limit m out) _ _ _
         (λ room. let l : savedSize (m .count) ≤ length out = leb-true _ _ room in
-        record { at-done = λ _. written m out (savedForm (entriesOf m)) refl (form-size limit m s) (omega (arith, l, form-size limit m s)) })
+        record { at-done = λ _. written limit m s out (savedForm (entriesOf m)) refl (form-size limit m s) (omega (arith, l, form-size limit m s)) })
         (λ _. record { at-done = λ e. absurd (omega arith) })) (λ _. record { at-done = λ e. absurd (omega arith) })
 
 entriesRead : Reading → List Entry

@@ -16,14 +16,15 @@ use Rattle.saved.specs.Calls.{SaveResult, LoadResult, save, load, allClo
 
 -- ---- saving
 
--- the saved form has the size that saving answers, and stands first in the output, whose rest is unchanged
-pub record Saved (m : TableMemory) (out : List ℕ) (r : SaveResult) : Type 0 where
+-- the table is sound; its saved form has the size that saving answers, and stands first in the output, whose rest is unchanged
+pub record Saved (limit : ℕ) (m : TableMemory) (out : List ℕ) (r : SaveResult) : Type 0 where
+  pub table-sound : soundTable limit m ≡ true
   pub size : r .answer .sent ≡ savedSize (m .count)
   pub form : take (r .answer .sent) (r .output) ≡ savedForm (entriesOf m)
   pub rest : drop (r .answer .sent) (r .output) ≡ drop (r .answer .sent) out
 
 abbrev pub SaveGivesForm : Type 0
-SaveGivesForm = (limit : ℕ) (m : TableMemory) (out : List ℕ) → save limit m out .answer .number ≡ done → Saved m out (save limit m out)
+SaveGivesForm = (limit : ℕ) (m : TableMemory) (out : List ℕ) → save limit m out .answer .number ≡ done → Saved limit m out (save limit m out)
 
 -- "one table has one saved form", and one saved form is that of one table
 abbrev pub OneTableOfForm : Type 0
