@@ -32,7 +32,7 @@ impl TestServer {
     /// What is to be done first is done before each notice is taken.
     pub fn start_with(settings: Settings, mut first: impl FnMut() + Send + 'static) -> Self {
         let (notify, notices) = channel();
-        let server = Server::start(ANY_PORT, settings, move |notice| {
+        let server = Server::start(ANY_PORT, settings, None, move |notice| {
             first();
             // A test that has ended needs no notices.
             let _ = notify.send(notice.to_string());
@@ -83,7 +83,7 @@ impl TestServer {
     }
 
     pub fn stop(self) {
-        assert!(self.server.stop());
+        self.server.stop().unwrap();
     }
 }
 
