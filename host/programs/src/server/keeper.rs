@@ -143,3 +143,26 @@ impl Waiting {
         self.state.lock().unwrap_or_else(PoisonError::into_inner)
     }
 }
+
+#[cfg(test)]
+mod tests {
+    use super::*;
+
+    #[test]
+    fn newest_is_written_alone() {
+        let state = Mutex::new(State { newest: None, is_last: false });
+        let waiting = Waiting { state, changed: Condvar::new() };
+        let hand_over = |byte| waiting.change(|state| state.newest = Some(vec![byte]));
+        hand_over(1);
+        hand_over(2);
+        assert_eq!(waiting.next(), Some((vec![2], false)));
+        hand_over(3);
+        waiting.change(|state| state.is_last = true);
+        // One that could not be written gives way to a newer one, and comes again where there is none.
+        waiting.put_back(vec![2]);
+        assert_eq!(waiting.next(), Some((vec![3], true)));
+        waiting.put_back(vec![3]);
+        assert_eq!(waiting.next(), Some((vec![3], true)));
+        assert_eq!(waiting.next(), None);
+    }
+}
