@@ -1,6 +1,6 @@
 //! The owner of the table.
 
-use super::explain::IgnoredMessages;
+use super::explain::{IgnoredMessages, UPDATE};
 use super::keeper::Keeper;
 use super::link::{Link, WRITE_TRY};
 use super::notices::Notices;
@@ -23,9 +23,6 @@ pub const MOST_LINGERING: usize = 16;
 
 /// Whether all streams have ended is looked at so often.
 const END_LOOK: Duration = Duration::from_millis(10);
-
-/// The kind of an update.
-const UPDATE: u8 = 0x11;
 
 /// What the owner is told.
 pub enum Event {

@@ -1,6 +1,6 @@
 //! The client program's commands, with the server and with ends that answer wrongly.
 
-use crate::program::{SERVER_PROGRAM, ServerProgram, program};
+use crate::program::{ServerProgram, program, server_program};
 use crate::support::{
     ANY_PORT, HELLO, TIMEOUT, TestClient, TestServer, bytes_of, one_connection, run_at,
 };
@@ -284,8 +284,7 @@ fn programs_as_they_are_called() {
 fn server_program_that_cannot_listen() {
     let taken = TcpListener::bind(ANY_PORT).unwrap();
     let address = taken.local_addr().unwrap().to_string();
-    let status =
-        |arguments: &[&str]| program(SERVER_PROGRAM, arguments).output().unwrap().status.code();
+    let status = |arguments: &[&str]| server_program(arguments).0;
     assert_eq!(status(&[&address]), Some(1));
     assert_eq!(status(&[&address, "more"]), Some(2));
     assert_eq!(status(&["--help"]), Some(2));

@@ -1,18 +1,19 @@
 //! The server program with a file in which it keeps its table, and its end by a signal.
 
 use crate::load::Load;
-use crate::program::{SERVER_PROGRAM, ServerProgram, TestFolder, program, wait_until};
+use crate::program::{ServerProgram, TestFolder, server_program, wait_until};
 use crate::support::{ANY_PORT, new_entry, run_at};
 use nt2::{ENTRIES, Entry, LONGEST_SAVED, Message, SAVED_ENTRY, ServerTable, Type};
-use std::fs;
+use std::fs::{self, File};
+use std::io::Read;
 use std::os::unix::fs::{MetadataExt, PermissionsExt, symlink};
 use std::thread;
 use std::time::{Duration, Instant};
 
 /// A change is in the file so long after it at the latest.
 const SAVED_WITHIN: Duration = Duration::from_secs(1);
-/// The end waits so long at most for clients that do not read: two seconds, and some for the machine.
-const MOST_END: Duration = Duration::from_secs(5);
+/// The end waits so long for clients that do not read or do not close their stream.
+const LINGER: Duration = Duration::from_secs(2);
 
 /// The saved form of a table.
 fn saved(table: &ServerTable) -> Vec<u8> {
@@ -141,10 +142,9 @@ fn expect_refused(folder: &TestFolder, contents: &[u8], refused: &str) {
     let path = folder.path("table");
     fs::write(&path, contents).unwrap();
     let before = fs::metadata(&path).unwrap();
-    let ended = program(SERVER_PROGRAM, &["--table", &path, ANY_PORT]).output().unwrap();
-    let said = String::from_utf8(ended.stderr).unwrap();
+    let (status, printed, said) = server_program(&["--table", &path, ANY_PORT]);
     assert_eq!(said, format!("nt2-server: {path}: refused with {refused}\n"));
-    assert_eq!((ended.status.code(), &ended.stdout[..]), (Some(1), &b""[..]));
+    assert_eq!((status, printed.as_str()), (Some(1), ""));
     let after = fs::metadata(&path).unwrap();
     assert_eq!(fs::read(&path).unwrap(), contents);
     assert_eq!(
@@ -198,9 +198,8 @@ fn damaged_file_is_said_and_left_as_it_is() {
 fn files_that_cannot_be_used() {
     let folder = TestFolder::new("files_that_cannot_be_used");
     let refused = |path: &str, said: &str| {
-        let ended = program(SERVER_PROGRAM, &["--table", path, ANY_PORT]).output().unwrap();
-        assert_eq!((ended.status.code(), &ended.stdout[..]), (Some(1), &b""[..]));
-        assert_eq!(String::from_utf8(ended.stderr).unwrap(), format!("nt2-server: {said}\n"));
+        let ended = server_program(&["--table", path, ANY_PORT]);
+        assert_eq!(ended, (Some(1), String::new(), format!("nt2-server: {said}\n")));
     };
     let (path, inside) = (folder.path(""), folder.path("no_folder/table"));
     refused(&path, &format!("{path}: not a file"));
@@ -244,6 +243,20 @@ fn changes_are_saved_within_a_second() {
     let time = time_until(&path, |table| table.entry(id).unwrap().value == [0]);
     assert!(time <= SAVED_WITHIN, "{time:?}");
     assert_eq!(loaded(&path).entry(id).unwrap().number, 4);
+}
+
+#[test]
+fn file_is_replaced_and_not_written_over() {
+    let folder = TestFolder::new("file_is_replaced_and_not_written_over");
+    let (path, before) = (folder.path("table"), saved(&small_table()));
+    fs::write(&path, &before).unwrap();
+    let server = start_with(&path);
+    let mut opened_before = File::open(&path).unwrap();
+    server.greeted().create("gross", Type::Boolean, &[1]);
+    time_until(&path, |table| table.count() == 3);
+    let mut bytes = Vec::new();
+    opened_before.read_to_end(&mut bytes).unwrap();
+    assert_eq!(bytes, before);
 }
 
 #[test]
@@ -361,7 +374,10 @@ fn signals_end_with_all_saved_and_sent() {
         let server = start_with(&path);
         let load = Load::start(server.address());
         thread::sleep(Duration::from_millis(700));
+        let start = Instant::now();
         let said = end_by(server, signal);
+        // All clients close their streams, and none has to be waited for longer.
+        assert!(start.elapsed() < LINGER, "{:?}", start.elapsed());
         assert!(said.iter().any(|line| line == "connection 0: left, the server stops"));
         let (reading, kept) = (load.ended(), loaded(&path));
         assert!(reading.is_whole);
@@ -420,11 +436,16 @@ fn end_waits_for_clients_that_read_and_for_no_others() {
     writer.create("last", Type::Boolean, &[1]);
     let start = Instant::now();
     server.signal("INT");
-    thread::sleep(Duration::from_millis(500));
+    // It still sends. If the server did not read that, the stream would be reset, and what is not read
+    // yet be lost.
+    while start.elapsed() < Duration::from_millis(500) {
+        reads_late.send(&Message::KeepAlive);
+        thread::sleep(Duration::from_millis(1));
+    }
     reads_late.take_rest();
     let (status, said) = server.ended();
     assert_eq!(status, Some(0), "{said:?}");
-    assert!(start.elapsed() < MOST_END, "{:?}", start.elapsed());
+    assert!(start.elapsed() < 2 * LINGER, "{:?}", start.elapsed());
     let kept = loaded(&path);
     assert_eq!((kept.count(), kept.entry(id).unwrap().number), (2, UNREAD));
     let read: Vec<_> = reads_late.copy.entries().map(|(_, entry)| entry).collect();
@@ -444,5 +465,5 @@ fn second_signal_ends_at_once() {
     time_until(&path, |table| table.count() == 1);
     server.signal("INT");
     assert_eq!(server.ended().0, Some(1));
-    assert!(start.elapsed() < Duration::from_millis(1500), "{:?}", start.elapsed());
+    assert!(start.elapsed() < LINGER, "{:?}", start.elapsed());
 }

@@ -2,11 +2,12 @@
 //! a second before.
 
 use crate::kept::{entries_of, loaded};
-use crate::load::{Load, turns};
+use crate::load::{Load, Turns, turns};
 use crate::program::{ServerProgram, TestFolder};
 use std::env;
 use std::fs;
-use std::thread;
+use std::os::unix::fs::MetadataExt;
+use std::thread::{self, JoinHandle};
 use std::time::{Duration, Instant, SystemTime, UNIX_EPOCH};
 
 /// Kills, if nothing else is said by `KILLS`.
@@ -25,6 +26,20 @@ fn given(name: &str) -> Option<u64> {
     env::var(name).ok().map(|text| text.parse().unwrap())
 }
 
+/// The turns of a file's entries; none where there is no file.
+fn kept_turns(path: &str) -> Turns {
+    if fs::exists(path).unwrap() {
+        turns(entries_of(&loaded(path)).into_iter())
+    } else {
+        Vec::new()
+    }
+}
+
+/// What tells a file from another one of the same name.
+fn identity(path: &str) -> Option<(u64, SystemTime)> {
+    fs::metadata(path).ok().map(|found| (found.ino(), found.modified().unwrap()))
+}
+
 /// What came of a series of kills.
 #[derive(Default)]
 struct Series {
@@ -38,38 +53,27 @@ struct Series {
 impl Series {
     /// Starts a server, kills it after some time under load, and looks at the file.
     fn kill(&mut self, path: &str, time: Duration, in_a_save: bool) {
-        let new = format!("{path}.new");
-        let before = fs::exists(path).unwrap().then(|| loaded(path));
-        let mut server = ServerProgram::start(&["--table", path]);
+        let (at_start, new) = (kept_turns(path), format!("{path}.new"));
+        let (left_before, mut server) = (identity(&new), ServerProgram::start(&["--table", path]));
         let started = server.greeted().copy;
-        let held = before.as_ref().map(entries_of).unwrap_or_default();
-        assert_eq!(started.entries().map(|(_, entry)| entry).collect::<Vec<_>>(), held);
-        let at_start = turns(held.into_iter());
+        assert_eq!(turns(started.entries().map(|(_, entry)| entry)), at_start);
 
         let load = Load::start(server.address());
         thread::sleep(time);
-        let waited = Instant::now();
-        while in_a_save && !fs::exists(&new).unwrap() && waited.elapsed() < NEXT_SAVE {}
+        let (waits, saves) =
+            (Instant::now(), || identity(&new).is_some_and(|new| Some(new) != left_before));
+        while in_a_save && !saves() && waits.elapsed() < NEXT_SAVE {}
         let killed = Instant::now();
         server.kill();
-        let reading = load.ended();
 
-        let kept = if fs::exists(path).unwrap() {
-            turns(entries_of(&loaded(path)).into_iter())
-        } else {
-            Vec::new()
-        };
-        let read =
-            killed.checked_sub(KEPT_AFTER).map_or(&[][..], |moment| reading.turns_at(moment));
+        let (reading, kept) = (load.ended(), kept_turns(path));
+        let read = reading.turns_at(killed - KEPT_AFTER);
         for earlier in [&at_start[..], read] {
             assert!(kept.len() >= earlier.len(), "entries are lost");
-            assert!(
-                kept.iter().zip(earlier).all(|(kept, earlier)| kept >= earlier),
-                "a turn is lost"
-            );
+            assert!(kept.iter().zip(earlier).all(|(kept, earlier)| kept >= earlier));
         }
         self.with_news += u64::from(read.iter().sum::<u64>() > at_start.iter().sum());
-        self.in_a_save += u64::from(fs::exists(&new).unwrap());
+        self.in_a_save += u64::from(saves());
         self.turns = kept.iter().sum();
     }
 }
@@ -95,8 +99,10 @@ fn killed_at_any_moment() {
     let servers: Vec<_> = (0..SERVERS)
         .map(|server| thread::spawn(move || series(seed.wrapping_add(server), server, kills)))
         .collect();
-    for server in servers {
-        let Series { with_news, in_a_save, turns } = server.join().unwrap();
+    // Each of them ends its server, also where another one has failed.
+    let all: Vec<_> = servers.into_iter().map(JoinHandle::join).collect();
+    for ended in all {
+        let Series { with_news, in_a_save, turns } = ended.unwrap();
         println!("{kills} kills, {with_news} with news, {in_a_save} in a save, {turns} turns");
         assert!(with_news > 0);
     }

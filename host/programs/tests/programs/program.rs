@@ -10,7 +10,7 @@ use std::sync::mpsc::{Receiver, channel};
 use std::thread;
 use std::time::{Duration, Instant};
 
-pub const SERVER_PROGRAM: &str = env!("CARGO_BIN_EXE_nt2-server");
+const SERVER_PROGRAM: &str = env!("CARGO_BIN_EXE_nt2-server");
 
 /// A program that is to be run with these arguments.
 pub fn program(path: &str, arguments: &[&str]) -> Command {
@@ -19,9 +19,29 @@ pub fn program(path: &str, arguments: &[&str]) -> Command {
     command
 }
 
-/// The server program at work. It is killed with its test.
+/// A program that is killed with its test.
+struct Running(Child);
+
+impl Drop for Running {
+    fn drop(&mut self) {
+        let _ = self.0.kill();
+        let _ = self.0.wait();
+    }
+}
+
+/// Runs the server program until it ends. Answers its exit status and what it prints.
+pub fn server_program(arguments: &[&str]) -> (Option<i32>, String, String) {
+    let mut server = Running(program(SERVER_PROGRAM, arguments).spawn().unwrap());
+    let status = wait_until(|| server.0.try_wait().unwrap());
+    let (mut printed, mut said) = (String::new(), String::new());
+    server.0.stdout.take().unwrap().read_to_string(&mut printed).unwrap();
+    server.0.stderr.take().unwrap().read_to_string(&mut said).unwrap();
+    (status.code(), printed, said)
+}
+
+/// The server program at work.
 pub struct ServerProgram {
-    child: Child,
+    running: Running,
     address: SocketAddr,
     said: Receiver<String>,
 }
@@ -30,15 +50,15 @@ impl ServerProgram {
     /// Starts the program at any port, and waits until it listens.
     pub fn start(options: &[&str]) -> Self {
         let arguments = [options, &[ANY_PORT]].concat();
-        let mut child = program(SERVER_PROGRAM, &arguments).spawn().unwrap();
-        let said = lines(child.stderr.take().unwrap());
+        let mut running = Running(program(SERVER_PROGRAM, &arguments).spawn().unwrap());
+        let said = lines(running.0.stderr.take().unwrap());
         let mut line = String::new();
-        BufReader::new(child.stdout.take().unwrap()).read_line(&mut line).unwrap();
+        BufReader::new(running.0.stdout.take().unwrap()).read_line(&mut line).unwrap();
         let Some(address) = line.trim_end().strip_prefix("listening at ") else {
-            child.kill().unwrap();
+            drop(running);
             panic!("{:?}", said.iter().collect::<Vec<_>>());
         };
-        ServerProgram { child, address: address.parse().unwrap(), said }
+        ServerProgram { running, address: address.parse().unwrap(), said }
     }
 
     pub fn address(&self) -> SocketAddr {
@@ -64,27 +84,20 @@ impl ServerProgram {
 
     /// Sends a signal by its name.
     pub fn signal(&self, name: &str) {
-        let kill = format!("kill -{name} {}", self.child.id());
+        let kill = format!("kill -{name} {}", self.running.0.id());
         assert!(Command::new("sh").args(["-c", &kill]).status().unwrap().success());
     }
 
     /// Waits until the program has ended. Answers its exit status and the lines not taken yet.
     pub fn ended(mut self) -> (Option<i32>, Vec<String>) {
-        let status = wait_until(|| self.child.try_wait().unwrap());
+        let status = wait_until(|| self.running.0.try_wait().unwrap());
         (status.code(), self.said.iter().collect())
     }
 
     /// Kills the program at once.
     pub fn kill(&mut self) {
-        self.child.kill().unwrap();
-        self.child.wait().unwrap();
-    }
-}
-
-impl Drop for ServerProgram {
-    fn drop(&mut self) {
-        let _ = self.child.kill();
-        let _ = self.child.wait();
+        self.running.0.kill().unwrap();
+        self.running.0.wait().unwrap();
     }
 }
 
