@@ -8,6 +8,7 @@ pub mod failure;
 pub mod listing;
 pub mod notice;
 pub mod server;
+pub mod table_file;
 pub mod value;
 
 use std::env;

@@ -1,10 +1,11 @@
-//! What a server says of its connections, one line each.
+//! What a server says of its connections and of its table's file, one line each.
 
 use crate::value::quoted;
 use nt2::{CONNECTIONS, Place, Refusal};
 use std::fmt;
 use std::io;
 use std::net::SocketAddr;
+use std::path::PathBuf;
 
 /// An event that a server reports.
 #[derive(Debug)]
@@ -34,6 +35,20 @@ pub enum Notice {
     },
     NotAccepted {
         error: io::Error,
+    },
+    /// The table of so many entries was loaded; none where there is no file.
+    Loaded {
+        file: PathBuf,
+        entries: Option<usize>,
+    },
+    /// The table could not be written. This is tried again.
+    NotSaved {
+        file: PathBuf,
+        error: io::Error,
+    },
+    /// Behind a notice that it was not.
+    SavedAgain {
+        file: PathBuf,
     },
     /// So many notices were not handed over, since too many waited.
     Dropped {
@@ -95,6 +110,18 @@ impl fmt::Display for Notice {
                 write!(f, "{peer}: closed, all {CONNECTIONS} connections are open")
             }
             Notice::NotAccepted { error } => write!(f, "a connection was not accepted: {error}"),
+            Notice::Loaded { file, entries: Some(entries) } => {
+                write!(f, "{}: table loaded, entries {entries}", file.display())
+            }
+            Notice::Loaded { file, entries: None } => {
+                write!(f, "{}: no such file, the table is empty", file.display())
+            }
+            Notice::NotSaved { file, error } => {
+                write!(f, "{}: the table is not saved: {error}", file.display())
+            }
+            Notice::SavedAgain { file } => {
+                write!(f, "{}: the table is saved again", file.display())
+            }
             Notice::Dropped { count } => write!(f, "notices dropped: {count}"),
         }
     }

@@ -1,8 +1,9 @@
 //! Messages per second of a server program over the loopback: some clients send updates in bursts, and
-//! all others get each of them. With `--before` an earlier server takes its turn in every round.
+//! all others get each of them. With `--before` an earlier server takes its turn in every round, and with
+//! `--table` the server once more, with its table kept in that file, which is removed first.
 //!
 //! Arguments: `--server PROGRAM` (else the nt2-server beside this program), `--before PROGRAM`,
-//! `--writers N`, `--readers N`, `--burst N` updates in one write, `--bursts N` of each writer,
+//! `--table FILE`, `--writers N`, `--readers N`, `--burst N` updates in one write, `--bursts N` of each writer,
 //! `--rounds N` (the fastest counts).
 
 #![forbid(unsafe_code)]
@@ -12,6 +13,7 @@ use nt2_sys::{CONNECTIONS, ENTRIES};
 use nt2_tests::arguments::Arguments;
 use nt2_tests::ending::status;
 use std::env;
+use std::fs;
 use std::io::{BufRead, BufReader, Read, Write};
 use std::net::TcpStream;
 use std::path::{Path, PathBuf};
@@ -49,9 +51,14 @@ struct Server {
 }
 
 impl Server {
-    fn start(program: &Path) -> Result<Self, String> {
+    fn start(program: &Path, table: Option<&str>) -> Result<Self, String> {
         let failed = |why: String| format!("{}: {why}", program.display());
         let mut command = Command::new(program);
+        if let Some(file) = table {
+            // It fails only where there is none.
+            let _ = fs::remove_file(file);
+            command.args(["--table", file]);
+        }
         command.arg("127.0.0.1:0").stdout(Stdio::piped()).stderr(Stdio::null());
         let mut child = command.spawn().map_err(|error| failed(error.to_string()))?;
         let mut line = String::new();
@@ -174,8 +181,8 @@ fn bursts(load: Load, writer: usize) -> Vec<Vec<u8>> {
 }
 
 /// Messages per second that a server takes and that all others have read.
-fn measure(program: &Path, load: Load) -> Result<f64, String> {
-    let server = Server::start(program)?;
+fn measure(program: &Path, table: Option<&str>, load: Load) -> Result<f64, String> {
+    let server = Server::start(program, table)?;
     let answer = server.fill()?;
     let bursts: Vec<_> = (0..load.writers).map(|writer| bursts(load, writer)).collect();
     let sizes: Vec<usize> = bursts.iter().map(|bursts| bursts.iter().map(Vec::len).sum()).collect();
@@ -204,7 +211,7 @@ fn measure(program: &Path, load: Load) -> Result<f64, String> {
 }
 
 fn run() -> Result<(), String> {
-    let keys = ["server", "before", "writers", "readers", "burst", "bursts", "rounds"];
+    let keys = ["server", "before", "table", "writers", "readers", "burst", "bursts", "rounds"];
     let arguments = Arguments::read(&keys)?;
     let (writers, readers) = (arguments.number("writers", 2)?, arguments.number("readers", 2)?);
     if writers == 0 || writers + readers < 2 || writers + readers > CONNECTIONS {
@@ -218,16 +225,18 @@ fn run() -> Result<(), String> {
         Load { writers, readers, burst, bursts: arguments.number("bursts", UPDATES / burst)? };
     let beside = env::current_exe().map_err(|error| error.to_string())?;
     let beside = beside.with_file_name("nt2-server");
-    let before = arguments.text("before").map(|before| ("before", PathBuf::from(before), 0.0));
-    let now = ("now", arguments.text("server").map_or(beside, PathBuf::from), 0.0);
-    let mut servers: Vec<_> = before.into_iter().chain([now]).collect();
+    let now = arguments.text("server").map_or(beside, PathBuf::from);
+    let before = arguments.text("before").map(|before| ("before", PathBuf::from(before), None));
+    let kept = arguments.text("table").map(|file| ("kept", now.clone(), Some(file)));
+    let servers: Vec<_> = before.into_iter().chain([("now", now, None)]).chain(kept).collect();
+    let mut fastest = vec![0.0f64; servers.len()];
     for _ in 0..rounds {
-        for (_, program, best) in &mut servers {
-            *best = measure(program, load)?.max(*best);
+        for ((_, program, table), best) in servers.iter().zip(&mut fastest) {
+            *best = measure(program, *table, load)?.max(*best);
         }
     }
     println!("{writers} writers, {readers} readers, bursts of {burst} updates, 64 entries");
-    for (name, _, best) in servers {
+    for ((name, ..), best) in servers.iter().zip(fastest) {
         println!("{name:<8} {best:>9.0} messages a second");
     }
     Ok(())

@@ -5,7 +5,7 @@ use crate::notice::{Ignored, Notice};
 use nt2::{Delivery, LONGEST_HELLO_ANSWER, Message, Reason, ServerTable, Standing, Type, decode};
 
 /// The kind of an update.
-const UPDATE: u8 = 0x11;
+pub const UPDATE: u8 = 0x11;
 
 /// The messages of a delivery that were ignored, but for keep alives.
 pub struct IgnoredMessages {

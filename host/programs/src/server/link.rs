@@ -13,7 +13,7 @@ use std::time::{Duration, Instant};
 pub const MOST_WAITING: usize = 256 * 1024;
 
 /// A write that cannot go on is tried again so often, to see whether its time is over.
-const WRITE_TRY: Duration = Duration::from_millis(250);
+pub const WRITE_TRY: Duration = Duration::from_millis(250);
 
 /// A stream that one thread reads and another one writes. The owner of the table never waits for
 /// either.
@@ -36,7 +36,7 @@ struct State {
 
 impl Link {
     pub fn new(stream: TcpStream, settings: Settings) -> io::Result<Self> {
-        let Settings { linger, idle_limit } = settings;
+        let Settings { linger, idle_limit, .. } = settings;
         stream.set_nodelay(true)?;
         stream.set_read_timeout(Some(idle_limit))?;
         stream.set_write_timeout(Some(WRITE_TRY))?;

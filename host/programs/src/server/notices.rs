@@ -3,10 +3,11 @@
 use super::explain::IgnoredMessages;
 use super::spawn;
 use crate::notice::Notice;
+use std::convert::Infallible;
 use std::io;
 use std::sync::Arc;
 use std::sync::atomic::{AtomicU64, Ordering};
-use std::sync::mpsc::{Receiver, SyncSender, TryRecvError, sync_channel};
+use std::sync::mpsc::{Receiver, SyncSender, TryRecvError, channel, sync_channel};
 
 /// At most so many notices wait, beside the one that is being handed over. Those of the messages that
 /// a delivery ignored count as one.
@@ -14,6 +15,7 @@ pub const MOST_NOTICES: usize = 64;
 
 /// Notices that a thread of their own hands over, so that whoever does not take them stops no call. It
 /// finds out why messages were ignored, too.
+#[derive(Clone)]
 pub struct Notices {
     waiting: SyncSender<Waiting>,
     dropped: Arc<AtomicU64>,
@@ -25,12 +27,19 @@ enum Waiting {
 }
 
 impl Notices {
-    pub fn start(notify: impl FnMut(&Notice) + Send + 'static) -> io::Result<Self> {
+    /// The receiver is disconnected once there are no more, and all are handed over.
+    pub fn start(
+        notify: impl FnMut(&Notice) + Send + 'static,
+    ) -> io::Result<(Self, Receiver<Infallible>)> {
         let (waiting, received) = sync_channel(MOST_NOTICES);
         let dropped = Arc::new(AtomicU64::new(0));
         let counted = Arc::clone(&dropped);
-        spawn("notices", move || hand_over(&received, &counted, notify))?;
-        Ok(Notices { waiting, dropped })
+        let (at_work, end) = channel();
+        spawn("notices", move || {
+            hand_over(&received, &counted, notify);
+            drop(at_work);
+        })?;
+        Ok((Notices { waiting, dropped }, end))
     }
 
     /// Lets a notice wait. Where too many do, it is dropped and counted.

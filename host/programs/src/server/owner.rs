@@ -1,9 +1,10 @@
 //! The owner of the table.
 
-use super::explain::IgnoredMessages;
-use super::link::Link;
+use super::explain::{IgnoredMessages, UPDATE};
+use super::keeper::Keeper;
+use super::link::{Link, WRITE_TRY};
 use super::notices::Notices;
-use super::{Settings, spawn};
+use super::{Fault, Settings, spawn};
 use crate::notice::{Notice, Reason};
 use nt2::{
     CONNECTIONS, Delivery, Ended, HEADING, LONGEST_HELLO_ANSWER, Place, Refusal, Sent, ServerTable,
@@ -13,11 +14,15 @@ use std::collections::VecDeque;
 use std::io;
 use std::mem;
 use std::net::{SocketAddr, TcpStream};
-use std::sync::mpsc::{Receiver, SyncSender};
+use std::sync::mpsc::{Receiver, RecvTimeoutError, SyncSender};
 use std::sync::{Arc, Weak};
+use std::time::{Duration, Instant};
 
-/// At most so many closed connections still have their stream, to send what waits.
+/// At most so many closed connections still have their stream, to send what waits. At the end all have.
 pub const MOST_LINGERING: usize = 16;
+
+/// Whether all streams have ended is looked at so often.
+const END_LOOK: Duration = Duration::from_millis(10);
 
 /// What the owner is told.
 pub enum Event {
@@ -44,6 +49,8 @@ struct Client {
 
 pub struct Owner {
     table: ServerTable,
+    /// None where the table is not kept.
+    keeper: Option<Keeper>,
     clients: [Option<Client>; CONNECTIONS],
     /// Closed connections whose reader or writer may still be at work, the oldest first.
     lingering: VecDeque<Weak<Link>>,
@@ -55,10 +62,17 @@ pub struct Owner {
 }
 
 impl Owner {
-    /// A fresh table. Readers are given the sender of events.
-    pub fn new(events: SyncSender<Event>, settings: Settings, notices: Notices) -> Self {
+    /// Readers are given the sender of events.
+    pub fn new(
+        table: ServerTable,
+        keeper: Option<Keeper>,
+        events: SyncSender<Event>,
+        settings: Settings,
+        notices: Notices,
+    ) -> Self {
         Owner {
-            table: ServerTable::new(),
+            table,
+            keeper,
             clients: [const { None }; CONNECTIONS],
             lingering: VecDeque::new(),
             accepted: 0,
@@ -70,8 +84,8 @@ impl Owner {
     }
 
     /// Makes the calls that the events ask for, until it is told to stop.
-    pub fn run(mut self, events: &Receiver<Event>) {
-        for event in events {
+    pub fn run(mut self, events: &Receiver<Event>) -> Result<(), Fault> {
+        while let Some(event) = self.next_event(events) {
             match event {
                 Event::Accepted(Ok((stream, peer))) => self.accept(stream, peer),
                 Event::Accepted(Err(error)) => self.notices.add(Notice::NotAccepted { error }),
@@ -80,7 +94,39 @@ impl Owner {
                 Event::Stop => break,
             }
         }
+        if let Some(keeper) = &mut self.keeper {
+            keeper.save_last(&self.table);
+        }
         (0..CONNECTIONS).for_each(|connection| self.close(connection, Reason::Stopped));
+        self.wait_for_streams(events);
+        self.keeper.map_or(Ok(()), Keeper::end)
+    }
+
+    /// Waits for the next event, and saves the table meanwhile where that is due.
+    fn next_event(&mut self, events: &Receiver<Event>) -> Option<Event> {
+        while let Some(keeper) = &mut self.keeper
+            && let Some(left) = keeper.time_left()
+        {
+            if left.is_zero() {
+                keeper.save(&self.table);
+                continue;
+            }
+            match events.recv_timeout(left) {
+                Ok(event) => return Some(event),
+                Err(RecvTimeoutError::Timeout) => {}
+                Err(RecvTimeoutError::Disconnected) => return None,
+            }
+        }
+        events.recv().ok()
+    }
+
+    /// Waits until what waits for the clients is sent and they have closed their streams, or their time
+    /// is over. What still arrives is dropped.
+    fn wait_for_streams(&self, events: &Receiver<Event>) {
+        let end = Instant::now() + self.settings.linger + 2 * WRITE_TRY;
+        while self.lingering.iter().any(|link| link.strong_count() > 0) && Instant::now() < end {
+            drop(events.recv_timeout(END_LOOK));
+        }
     }
 
     /// Gives a stream the lowest closed connection, or closes it where there is none.
@@ -167,9 +213,14 @@ impl Owner {
     /// Makes one delivery, sends what it has for the clients and says what was ignored. Answers how it
     /// ended, and how many bytes were taken.
     fn deliver(&mut self, connection: usize, input: &[u8]) -> (Ended, usize) {
-        let before = self.table.standing();
+        let (before, count) = (self.table.standing(), self.table.count());
         let delivery = self.table.deliver(connection, input, &mut self.output);
         let (ended, taken) = (delivery.ended, delivery.taken);
+        if let Some(keeper) = &mut self.keeper
+            && (self.table.count() > count || has_update(delivery))
+        {
+            keeper.changed();
+        }
         let not_reading = send(delivery, &self.clients);
         let ignored = IgnoredMessages::of(connection, delivery, input, &before, &self.table);
         if let Some(messages) = ignored {
@@ -200,7 +251,8 @@ impl Owner {
         };
         match reason {
             Reason::NotReading => client.link.abandon(),
-            _ => self.linger(&client.link),
+            Reason::Stopped => self.linger(&client.link, usize::MAX),
+            _ => self.linger(&client.link, MOST_LINGERING),
         }
         if self.table.state(connection) != Some(State::Closed)
             && let Err(refusal) = self.table.leave(connection)
@@ -210,17 +262,23 @@ impl Owner {
         self.notices.add(Notice::Left { connection, reason });
     }
 
-    /// Lets a closed connection send what waits. Where too many do, the oldest is abandoned.
-    fn linger(&mut self, link: &Arc<Link>) {
+    /// Lets a closed connection send what waits. Where more do than the bound, the oldest is abandoned.
+    fn linger(&mut self, link: &Arc<Link>, most: usize) {
         link.finish();
         self.lingering.retain(|link| link.strong_count() > 0);
         self.lingering.push_back(Arc::downgrade(link));
-        if self.lingering.len() > MOST_LINGERING
+        if self.lingering.len() > most
             && let Some(oldest) = self.lingering.pop_front().and_then(|link| link.upgrade())
         {
             oldest.abandon();
         }
     }
+}
+
+/// Whether a delivery has applied an update. All that was done is written, whether or not there is a
+/// client for it, and the answer to a hello does not begin with an update.
+fn has_update(delivery: Delivery<'_>) -> bool {
+    delivery.sent().any(|sent| sent.bytes.first() == Some(&UPDATE))
 }
 
 /// Sends what a delivery has for each client, in its order. Answers the connections that do not read.

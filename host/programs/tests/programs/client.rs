@@ -1,14 +1,14 @@
 //! The client program's commands, with the server and with ends that answer wrongly.
 
+use crate::program::{ServerProgram, program, server_program};
 use crate::support::{
     ANY_PORT, HELLO, TIMEOUT, TestClient, TestServer, bytes_of, one_connection, run_at,
 };
 use nt2::{ENTRIES, Message, Place, Refusal, Type};
 use nt2_programs::command;
 use nt2_programs::failure::Failure;
-use std::io::{self, BufRead, BufReader, Write};
+use std::io::{self, Write};
 use std::net::TcpListener;
-use std::process::{Child, Command, Stdio};
 use std::sync::mpsc::{Receiver, Sender, channel};
 use std::thread;
 
@@ -249,22 +249,6 @@ fn idle_client_sends_keep_alive() {
 /// An address of the loopback at which nothing listens; its port is never given by the system.
 const UNUSED_ADDRESS: &str = "127.0.0.1:1";
 
-/// A program that ends with its test.
-struct Running(Child);
-
-impl Drop for Running {
-    fn drop(&mut self) {
-        let _ = self.0.kill();
-        let _ = self.0.wait();
-    }
-}
-
-fn program(path: &str, arguments: &[&str]) -> Command {
-    let mut command = Command::new(path);
-    command.args(arguments).stdin(Stdio::null()).stdout(Stdio::piped()).stderr(Stdio::piped());
-    command
-}
-
 /// The exit status of the client program, and what it prints.
 fn client_program(arguments: &[&str]) -> (Option<i32>, String, String) {
     let output = program(env!("CARGO_BIN_EXE_nt2-client"), arguments).output().unwrap();
@@ -274,18 +258,14 @@ fn client_program(arguments: &[&str]) -> (Option<i32>, String, String) {
 
 #[test]
 fn programs_as_they_are_called() {
-    let server = program(env!("CARGO_BIN_EXE_nt2-server"), &[ANY_PORT]).spawn();
-    let mut server = Running(server.unwrap());
-    let mut line = String::new();
-    BufReader::new(server.0.stdout.take().unwrap()).read_line(&mut line).unwrap();
-    let address = line.trim_end().strip_prefix("listening at ").unwrap();
-    let mut notices = BufReader::new(server.0.stderr.take().unwrap()).lines();
+    let server = ServerProgram::start(&[]);
+    let address = &server.address().to_string();
 
     let (status, printed, _) =
         client_program(&["--server", address, "create", "tare", "boolean", "true"]);
     assert_eq!((status, printed.as_str()), (Some(0), "0 \"tare\" boolean 1 true\n"));
-    assert!(notices.next().unwrap().unwrap().starts_with("connection 0: opened by 127.0.0.1:"));
-    assert!(notices.next().unwrap().unwrap().starts_with("connection 0: left, "));
+    assert!(server.next_line().starts_with("connection 0: opened by 127.0.0.1:"));
+    assert!(server.next_line().starts_with("connection 0: left, "));
 
     let (status, printed, fault) = client_program(&["--server", address, "write", "weight", "1"]);
     assert_eq!((status, printed.as_str()), (Some(1), ""));
@@ -304,12 +284,12 @@ fn programs_as_they_are_called() {
 fn server_program_that_cannot_listen() {
     let taken = TcpListener::bind(ANY_PORT).unwrap();
     let address = taken.local_addr().unwrap().to_string();
-    let status = |arguments: &[&str]| {
-        program(env!("CARGO_BIN_EXE_nt2-server"), arguments).output().unwrap().status.code()
-    };
+    let status = |arguments: &[&str]| server_program(arguments).0;
     assert_eq!(status(&[&address]), Some(1));
     assert_eq!(status(&[&address, "more"]), Some(2));
     assert_eq!(status(&["--help"]), Some(2));
+    assert_eq!(status(&["--table"]), Some(2));
+    assert_eq!(status(&[&address, "--table", "file"]), Some(2));
 }
 
 #[test]

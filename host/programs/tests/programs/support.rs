@@ -6,6 +6,8 @@ use nt2_programs::failure::Failure;
 use nt2_programs::server::{Server, Settings};
 use std::io::{ErrorKind, Read, Write};
 use std::net::{SocketAddr, TcpListener, TcpStream};
+use std::sync::Arc;
+use std::sync::atomic::{AtomicBool, Ordering};
 use std::sync::mpsc::{Receiver, channel};
 use std::thread::{self, JoinHandle};
 use std::time::{Duration, Instant};
@@ -32,7 +34,7 @@ impl TestServer {
     /// What is to be done first is done before each notice is taken.
     pub fn start_with(settings: Settings, mut first: impl FnMut() + Send + 'static) -> Self {
         let (notify, notices) = channel();
-        let server = Server::start(ANY_PORT, settings, move |notice| {
+        let server = Server::start(ANY_PORT, settings, None, move |notice| {
             first();
             // A test that has ended needs no notices.
             let _ = notify.send(notice.to_string());
@@ -83,7 +85,7 @@ impl TestServer {
     }
 
     pub fn stop(self) {
-        assert!(self.server.stop());
+        self.server.stop().unwrap();
     }
 }
 
@@ -127,8 +129,18 @@ impl TestClient {
         self.stream.write_all(bytes).unwrap();
     }
 
+    /// Sends bytes; false where the other end has closed the stream.
+    pub fn sends(&mut self, bytes: &[u8]) -> bool {
+        self.stream.write_all(bytes).is_ok()
+    }
+
     pub fn send(&mut self, message: &Message<'_>) {
         self.send_bytes(&bytes_of(message));
+    }
+
+    /// Sends messages together.
+    pub fn send_all(&mut self, messages: &[Message<'_>]) {
+        self.send_bytes(&messages.iter().flat_map(bytes_of).collect::<Vec<u8>>());
     }
 
     /// Says hello and reads until hello complete.
@@ -139,16 +151,34 @@ impl TestClient {
 
     /// Takes the next message into the copy.
     pub fn next(&mut self) -> Copied {
+        self.next_or_end().expect("the stream ended")
+    }
+
+    /// Takes the next message into the copy; none at the end of the stream. Bytes of a message that is
+    /// cut there are held.
+    pub fn next_or_end(&mut self) -> Option<Copied> {
         loop {
             match self.copy.receive(&self.held) {
                 Ok(copied) => {
                     self.held.drain(..copied.taken());
-                    return copied;
+                    return Some(copied);
                 }
-                Err(Refusal::Incomplete) => assert!(self.read(), "the stream ended"),
+                Err(Refusal::Incomplete) if self.read() => {}
+                Err(Refusal::Incomplete) => return None,
                 Err(refusal) => panic!("{refusal}"),
             }
         }
+    }
+
+    /// Takes all messages until the stream ends, which it does behind a whole one.
+    pub fn take_rest(&mut self) {
+        while self.next_or_end().is_some() {}
+        assert!(self.holds_nothing());
+    }
+
+    /// Whether all that has arrived is taken.
+    pub fn holds_nothing(&self) -> bool {
+        self.held.is_empty()
     }
 
     /// Takes the next message, which is an assignment or update of this entry with this number.
@@ -198,6 +228,18 @@ impl TestClient {
     /// Reads until the stream ends, and looks at nothing.
     pub fn discard(&mut self) {
         while self.read() {}
+    }
+
+    /// Reads until the stream ends on a thread of its own, which looks at nothing, and says then that it
+    /// has ended.
+    pub fn discard_aside(&self, ended: Arc<AtomicBool>) -> JoinHandle<()> {
+        let mut aside = TestClient::on(self.stream.try_clone().unwrap());
+        thread::spawn(move || {
+            while aside.read() {
+                aside.held.clear();
+            }
+            ended.store(true, Ordering::Relaxed);
+        })
     }
 
     /// The stream ends, and nothing arrives before.
