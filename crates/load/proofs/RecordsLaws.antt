@@ -23,10 +23,9 @@ use Rattle.message.specs.Layout.{Entry, maxNameLength}
 use Rattle.table.specs.Names.{nameHeld}
 use Rattle.table.specs.Table.{part, tabulate}
 use Rattle.table.proofs.TabulateLaws.{length-tabulate}
-use Rattle.saved.specs.Form.{nameLengthPlace, namePlace, typePlace, numberPlace, valueLengthPlace, valuePlace, countRecordSize, entryRecordSize, savedSize}
+use Rattle.saved.specs.Form.{countKind, nameLengthPlace, namePlace, typePlace, numberPlace, valueLengthPlace, valuePlace, countRecordSize, entryRecordSize, savedSize}
 use Rattle.saved.specs.Reading.{Reading, refused, read, nameLengthIn, typeIn, valueLengthIn, entryIn, parseRecord, countIn, parseCount, readRecords, readSaved}
-use Rattle.saved.proofs.RecordLaws.{RecordIs, record-is}
-use Rattle.saved.proofs.ReadingLaws.{count-taken}
+use Rattle.saved.proofs.RecordLaws.{opening-facts, RecordIs, record-is}
 use Rattle.load.specs.Records.{entryOf, Storable, Records, told}
 
 -- ---- a record at a place
@@ -217,6 +216,10 @@ all-placed (suc k) i at s here r = go (parseRecord (drop at s)) refl (λ n e q. 
 sizeOf : Parsed → ℕ
 sizeOf (Refused fault) = 0
 sizeOf (Taken n) = n + 1
+
+pub count-taken : (limit : ℕ) (s : List ℕ) (n : ℕ) → parseCount limit s ≡ Taken n → (n ≡ countRecordSize) × (countIn s ≤ limit) × (countRecordSize ≤ length s)
+unfolding parseCount
+count-taken limit s n e = opening-facts countKind limit s n e
 
 pub form-stop : (limit : ℕ) (s : List ℕ) (fault : Fault) → parseCount limit s ≡ Refused fault → Refused fault ≡ told (readSaved limit s)
 unfolding readSaved

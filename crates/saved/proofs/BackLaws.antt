@@ -14,21 +14,22 @@ use Rattle.value.specs.Value.{maxValueSize}
 use Rattle.value.proofs.ValueLaws.{value-small, value-known, lone-taken}
 use Rattle.message.specs.Layout.{Entry, WellFormed, maxNameLength}
 use Rattle.table.specs.Table.{part}
-use Rattle.saved.specs.Form.{entryKind, namePlace, typePlace, numberPlace, valueLengthPlace, valuePlace, entryRecordSize, entryRecord}
-use Rattle.saved.specs.Reading.{allZero, nameLengthIn, typeIn, valueLengthIn, entryIn, parseFilling, parseName, parseNamed, parseValueIn, parseValued, parseRecord}
+use Rattle.saved.specs.Form.{entryKind, openingSize, namePlace, typePlace, numberPlace, valueLengthPlace, valuePlace, entryRecordSize, entryRecord}
+use Rattle.saved.specs.Reading.{allZero, nameLengthIn, typeIn, valueLengthIn, entryIn, parseOpening, parseFilling, parseName, parseNamed, parseValueIn, parseValued, parseRecord}
 use Rattle.saved.proofs.ZeroLaws.{all-zero}
 use Rattle.saved.proofs.RecordLaws.{NamedFacts, ValuedFacts, recordThen, record-then}
 
 -- ---- the facts give that the record is taken
 
+pub opening-taken : (kind most : ℕ) (s : List ℕ) → getD s 0 0 ≡ kind → getD s 1 0 ≤ most → openingSize ≤ length s → parseOpening kind most s ≡ Taken openingSize
+unfolding parseOpening pick
+opening-taken kind most s e l h = rw (le-leb 1 (length s) (omega arith), eq-eqb (getD s 0 0) kind e, le-leb openingSize (length s) h, le-leb (getD s 1 0) most l)
+
 named-taken : (s : List ℕ) → NamedFacts s → entryRecordSize ≤ length s → parseNamed s ≡ Taken typePlace
 unfolding parseNamed parseName parseFilling pick
 named-taken s f h =
     rw (
-      le-leb 1 (length s) (omega arith),
-      eq-eqb (getD s 0 0) entryKind (f .kind-is),
-      le-leb namePlace (length s) (omega arith),
-      le-leb (nameLengthIn s) maxNameLength (f .name-small),
+      opening-taken entryKind maxNameLength s (f .kind-is) (f .name-small) (omega arith),
       le-leb (namePlace + nameLengthIn s) (length s) (omega (arith, f .name-small)),
       f .name-text,
       le-leb typePlace (length s) (omega arith),

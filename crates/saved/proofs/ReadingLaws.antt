@@ -6,8 +6,8 @@ use Prim.Native.Nat.{ℕ, zero, suc, _+_, _*_, _≤_}
 use native.Mathlib.Omega.{arith}
 use lib.ListN.{length, drop, getD, length-append, List·getD-append}
 use lib.Seq.{getD-drop, getD-at}
-use borrow.Author.Tests.{leb-true, le-leb, eqb-true, not-true}
-use Rattle.field.specs.Answer.{incomplete, unknownKind, tooLong, nameTaken}
+use borrow.Author.Tests.{leb-true, not-true}
+use Rattle.field.specs.Answer.{tooLong, nameTaken}
 use Rattle.field.specs.Choice.{pick}
 use Rattle.field.specs.Field.{faultAt, movedBy, andThen}
 use Rattle.field.specs.declared.Fault.{Fault}
@@ -22,9 +22,9 @@ use Rattle.table.specs.Table.{defaultEntry}
 use Rattle.table.proofs.NamesLaws.{differ-last, differ-at, at-differ}
 use Rattle.soundness.proofs.StoredLaws.{AllWellFormed}
 use Rattle.saved.specs.Form.{countKind, countRecordSize, entryRecordSize, savedSize, countRecord, entryRecord, entryRecords, savedForm}
-use Rattle.saved.specs.Reading.{Reading, refused, read, entryIn, parseRecord, countIn, parseCount, readRecords, readSaved}
-use Rattle.saved.proofs.RecordLaws.{RecordIs, record-is, record-of-entry, entry-obeys}
-use Rattle.saved.proofs.BackLaws.{length-record, record-taken, record-rest, record-entry}
+use Rattle.saved.specs.Reading.{Reading, refused, read, entryIn, parseOpening, parseRecord, countIn, parseCount, readRecords, readSaved}
+use Rattle.saved.proofs.RecordLaws.{OpeningIs, opening-is, RecordIs, record-is, record-of-entry, entry-obeys}
+use Rattle.saved.proofs.BackLaws.{opening-taken, length-record, record-taken, record-rest, record-entry}
 
 -- entries that obey the rules, each with a name that none before it has, behind those of xs
 pub data Fresh : List Entry → List Entry → Type 0 where
@@ -71,34 +71,11 @@ records-are (suc count) xs place s = go (parseRecord s) (record-is s) (λ e n. r
 
 -- ---- the first record
 
-data CountIs (limit : ℕ) (s : List ℕ) : Parsed → Type 0 where
-  rejected : {fault : Fault} → 1 ≤ fault .number → CountIs limit s (Refused fault)
-  taken : countIn s ≤ limit → countRecordSize ≤ length s → s ≡ countRecord (countIn s) ++ drop countRecordSize s → CountIs limit s (Taken countRecordSize)
-
 front : (s : List ℕ) → getD s 0 0 ≡ countKind → countRecordSize ≤ length s → s ≡ countRecord (countIn s) ++ drop countRecordSize s
 unfolding countRecord
 front [] k h = absurd (omega arith)
 front (x ∷ []) k h = absurd (omega arith)
 front (x ∷ y ∷ s) k h = ap (λ (z : ℕ). z ∷ y ∷ s) k
-
-count-is : (limit : ℕ) (s : List ℕ) → CountIs limit s (parseCount limit s)
-unfolding parseCount
-count-is limit s =
-    by-test (CountIs limit s) _ _ _ (λ _.
-    by-test (CountIs limit s) _ _ _ (λ kind.
-    by-test (CountIs limit s) _ _ _ (λ there.
-    by-test (CountIs limit s) _ _ _ (λ small. CountIs.taken (leb-true _ _ small) (leb-true _ _ there) (front s (eqb-true _ _ kind) (leb-true _ _ there)))
-    (λ _. none-read tooLong _ (omega arith))) (λ _. none-read incomplete _ (omega arith))) (λ _. none-read unknownKind _ (omega arith)))
-    (λ _. none-read incomplete _ (omega arith))
-  where
-    none-read : (number place : ℕ) → 1 ≤ number → CountIs limit s (Refused (faultAt number place))
-    none-read number place h = CountIs.rejected {fault = faultAt number place} h
-
-pub count-taken : (limit : ℕ) (s : List ℕ) (n : ℕ) → parseCount limit s ≡ Taken n → (n ≡ countRecordSize) × (countIn s ≤ limit) × (countRecordSize ≤ length s)
-count-taken limit s n e = go n (rw e at (count-is limit s))
-  where
-    go : (m : ℕ) → CountIs limit s (Taken m) → (m ≡ countRecordSize) × (countIn s ≤ limit) × (countRecordSize ≤ length s)
-    go m (CountIs.taken l h c) = (refl, l, h)
 
 -- ---- the whole
 
@@ -108,8 +85,8 @@ pub data SavedIs (limit : ℕ) (s : List ℕ) : Reading → Type 0 where
   entries : {es : List Entry} → length es ≤ limit → Fresh [] es → (Bytes s → s ≡ savedForm es) → SavedIs limit s (read es)
 
 pub saved-is : (limit : ℕ) (s : List ℕ) → SavedIs limit s (readSaved limit s)
-unfolding readSaved
-saved-is limit s = go (parseCount limit s) (count-is limit s)
+unfolding readSaved parseCount
+saved-is limit s = go (parseOpening countKind limit s) (opening-is countKind limit s)
   where
     end : countIn s ≤ limit → s ≡ countRecord (countIn s) ++ drop countRecordSize s
         → (r : Reading) → RecordsAre (countIn s) [] (drop countRecordSize s) r → SavedIs limit s r
@@ -121,9 +98,9 @@ saved-is limit s = go (parseCount limit s) (count-is limit s)
         let few : length all ≤ limit = rw a (omega (arith, l, m)) in
         SavedIs.entries {es = all} few fresh form)
 
-    go : (r : Parsed) → CountIs limit s r → SavedIs limit s (andThen refused r (λ n. readRecords (countIn s) [] n (drop n s)))
-    go (Refused fault) (CountIs.rejected h) = SavedIs.rejected h
-    go (Taken n) (CountIs.taken l h c) = end l c _ (records-are (countIn s) [] countRecordSize (drop countRecordSize s))
+    go : (r : Parsed) → OpeningIs countKind limit s r → SavedIs limit s (andThen refused r (λ n. readRecords (countIn s) [] n (drop n s)))
+    go (Refused fault) (OpeningIs.refused h l) = SavedIs.rejected h
+    go (Taken n) (OpeningIs.opened kind small there) = end small (front s kind there) _ (records-are (countIn s) [] countRecordSize (drop countRecordSize s))
 
 -- ---- reading back
 
@@ -135,11 +112,10 @@ records-back (e ∷ es) xs place (Fresh.more w h f) =
     (records-back es (xs ++ (e ∷ [])) (place + entryRecordSize) f ∙ ap read (append-assoc xs (e ∷ []) es))
 
 pub saved-back : (limit : ℕ) (es : List Entry) → length es ≤ limit → Fresh [] es → readSaved limit (savedForm es) ≡ read es
-unfolding readSaved parseCount savedForm countRecord pick
+unfolding readSaved parseCount savedForm countRecord
 saved-back limit es l f =
     let long : length (savedForm es) ≡ 2 + length (entryRecords es) = omega arith in
-    rw (le-leb 1 (length (savedForm es)) (omega (arith, long)), le-leb 2 (length (savedForm es)) (omega (arith, long)), le-leb (length es) limit l)
-    (records-back es [] countRecordSize f)
+    rw (opening-taken countKind limit (savedForm es) refl l (omega (arith, long))) (records-back es [] countRecordSize f)
 
 length-records : (es xs : List Entry) → Fresh xs es → length (entryRecords es) ≡ entryRecordSize * length es
 unfolding entryRecords

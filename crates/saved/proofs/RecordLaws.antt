@@ -1,5 +1,5 @@
 -- An entry's record: what is read of one that is taken, and that it is the record of that entry.
-use mathlib.Core.Path.{_≡_, sym, ap, _∙_}
+use mathlib.Core.Path.{_≡_, refl, sym, ap, _∙_}
 use mathlib.Core.Bool.{true}
 use mathlib.Core.List.{List, _∷_, _++_, append-assoc}
 use Prim.Native.Nat.{ℕ, suc, _+_, _-_, _*_, _/_, _%_, _≤_}
@@ -23,9 +23,37 @@ use Rattle.message.specs.Layout.{Entry, WellFormed, maxNameLength}
 use Rattle.message.specs.Reader.{Bytes}
 use Rattle.message.proofs.RefusalLaws.{RefusedRightly, lone-rightly}
 use Rattle.table.specs.Table.{part}
-use Rattle.saved.specs.Form.{entryKind, nameLengthPlace, namePlace, typePlace, numberPlace, valueLengthPlace, valuePlace, entryRecordSize, filled, entryRecord}
-use Rattle.saved.specs.Reading.{allZero, nameLengthIn, typeIn, valueLengthIn, entryIn, parseFilling, parseName, parseNamed, parseValueIn, parseValued, parseRecord}
+use Rattle.saved.specs.Form.{entryKind, openingSize, namePlace, typePlace, numberPlace, valueLengthPlace, valuePlace, entryRecordSize, filled, entryRecord}
+use Rattle.saved.specs.Reading.{allZero, nameLengthIn, typeIn, valueLengthIn, entryIn, parseOpening, parseFilling, parseName, parseNamed, parseValueIn, parseValued, parseRecord}
 use Rattle.saved.proofs.ZeroLaws.{zeros}
+
+-- ---- how a record opens
+
+pub data OpeningIs (kind most : ℕ) (s : List ℕ) : Parsed → Type 0 where
+  refused : {fault : Fault} → 1 ≤ fault .number → fault .place ≤ 1 → OpeningIs kind most s (Refused fault)
+  opened : getD s 0 0 ≡ kind → getD s 1 0 ≤ most → openingSize ≤ length s → OpeningIs kind most s (Taken openingSize)
+
+pub opening-is : (kind most : ℕ) (s : List ℕ) → OpeningIs kind most s (parseOpening kind most s)
+unfolding parseOpening
+opening-is kind most s =
+    by-test Is _ _ _ (λ _.
+    by-test Is _ _ _ (λ same.
+    by-test Is _ _ _ (λ there.
+    by-test Is _ _ _ (λ small. OpeningIs.opened (eqb-true _ _ same) (leb-true _ _ small) (leb-true _ _ there))
+    (λ _. no-opening tooLong 1 (omega arith) (omega arith))) (λ _. no-opening incomplete 1 (omega arith) (omega arith)))
+    (λ _. no-opening unknownKind 0 (omega arith) (omega arith))) (λ _. no-opening incomplete 0 (omega arith) (omega arith))
+  where
+    Is : Parsed → Type 0
+    Is = OpeningIs kind most s
+
+    no-opening : (number place : ℕ) → 1 ≤ number → place ≤ 1 → OpeningIs kind most s (Refused (faultAt number place))
+    no-opening number place h l = OpeningIs.refused {fault = faultAt number place} h l
+
+pub opening-facts : (kind most : ℕ) (s : List ℕ) (n : ℕ) → parseOpening kind most s ≡ Taken n → (n ≡ openingSize) × (getD s 1 0 ≤ most) × (openingSize ≤ length s)
+opening-facts kind most s n e = go n (rw e at (opening-is kind most s))
+  where
+    go : (m : ℕ) → OpeningIs kind most s (Taken m) → (m ≡ openingSize) × (getD s 1 0 ≤ most) × (openingSize ≤ length s)
+    go m (OpeningIs.opened same small there) = (refl, small, there)
 
 -- ---- what a record that is taken has
 
@@ -62,24 +90,22 @@ no-value number place h l = ValuedIs.refused {fault = faultAt number place} h l
 
 named-is : (s : List ℕ) → NamedIs s (parseNamed s)
 unfolding parseNamed parseName parseFilling
-named-is s =
-    by-test (NamedIs s) _ _ _ (λ h1.
-    by-test (NamedIs s) _ _ _ (λ kind.
-    by-test (NamedIs s) _ _ _ (λ h2.
-    by-test (NamedIs s) _ _ _ (λ small.
-    let behind : namePlace + nameLengthIn s ≤ entryRecordSize = short (leb-true _ _ small) in
-    by-test (NamedIs s) _ _ _ (λ h3.
-    by-test (NamedIs s) _ _ _ (λ text.
-    by-test (NamedIs s) _ _ _ (λ h4.
-    by-test (NamedIs s) _ _ _ (λ fill.
-    NamedIs.taken (record { kind-is = eqb-true _ _ kind; name-small = leb-true _ _ small; name-text = text; name-filled = fill }))
-    (λ _. no-name badFilling (namePlace + nameLengthIn s) (omega arith) behind)) (λ _. no-name incomplete (namePlace + nameLengthIn s) (omega arith) behind))
-    (λ _. no-name notUtf8 namePlace (omega arith) (omega arith))) (λ _. no-name incomplete namePlace (omega arith) (omega arith)))
-    (λ _. no-name tooLong nameLengthPlace (omega arith) (omega arith))) (λ _. no-name incomplete nameLengthPlace (omega arith) (omega arith)))
-    (λ _. no-name unknownKind 0 (omega arith) (omega arith))) (λ _. no-name incomplete 0 (omega arith) (omega arith))
+named-is s = go (parseOpening entryKind maxNameLength s) (opening-is entryKind maxNameLength s)
   where
-    short : nameLengthIn s ≤ maxNameLength → namePlace + nameLengthIn s ≤ entryRecordSize
-    short h = omega arith
+    named : getD s 0 0 ≡ entryKind → nameLengthIn s ≤ maxNameLength → NamedIs s (parseName s)
+    named kind small =
+        let behind : namePlace + nameLengthIn s ≤ entryRecordSize = omega arith in
+        by-test (NamedIs s) _ _ _ (λ h1.
+        by-test (NamedIs s) _ _ _ (λ text.
+        by-test (NamedIs s) _ _ _ (λ h2.
+        by-test (NamedIs s) _ _ _ (λ fill.
+        NamedIs.taken (record { kind-is = kind; name-small = small; name-text = text; name-filled = fill }))
+        (λ _. no-name badFilling (namePlace + nameLengthIn s) (omega arith) behind)) (λ _. no-name incomplete (namePlace + nameLengthIn s) (omega arith) behind))
+        (λ _. no-name notUtf8 namePlace (omega arith) (omega arith))) (λ _. no-name incomplete namePlace (omega arith) (omega arith))
+
+    go : (r : Parsed) → OpeningIs entryKind maxNameLength s r → NamedIs s (andThen Refused r (λ n. parseName s))
+    go (Refused fault) (OpeningIs.refused h l) = NamedIs.refused {fault = fault} h (omega (arith, l))
+    go (Taken n) (OpeningIs.opened kind small there) = named kind small
 
 valued-is : (s : List ℕ) → ValuedIs s (parseValued s)
 unfolding parseValued parseValueIn parseFilling

@@ -15,12 +15,16 @@ countKind = 1
 abbrev pub entryKind : ℕ
 entryKind = 2
 
+-- every record opens with its kind and a byte: the count, or the name's length
+abbrev pub openingSize : ℕ
+openingSize = kindSize + octetSize
+
 -- where the fields of an entry's record start
 abbrev pub nameLengthPlace : ℕ
 nameLengthPlace = kindSize
 
 abbrev pub namePlace : ℕ
-namePlace = nameLengthPlace + octetSize
+namePlace = openingSize
 
 abbrev pub typePlace : ℕ
 typePlace = namePlace + maxNameLength
@@ -36,7 +40,7 @@ valuePlace = valueLengthPlace + numberSize
 
 -- how many bytes the first record has, and an entry's: 2 and 327
 abbrev pub countRecordSize : ℕ
-countRecordSize = kindSize + octetSize
+countRecordSize = openingSize
 
 abbrev pub entryRecordSize : ℕ
 entryRecordSize = valuePlace + maxValueSize

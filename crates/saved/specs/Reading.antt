@@ -18,7 +18,18 @@ use Rattle.value.specs.Value.{maxValueSize, knownType, parseLone}
 use Rattle.message.specs.Layout.{Entry, maxNameLength, kindSize}
 use Rattle.table.specs.Names.{nameHeld}
 use Rattle.table.specs.Table.{part}
-use Rattle.saved.specs.Form.{countKind, entryKind, nameLengthPlace, namePlace, typePlace, numberPlace, valueLengthPlace, valuePlace, countRecordSize, entryRecordSize}
+use Rattle.saved.specs.Form.{countKind, entryKind, openingSize, nameLengthPlace, namePlace, typePlace, numberPlace, valueLengthPlace, valuePlace, entryRecordSize}
+
+-- ---- how a record opens
+
+-- "1, 4, 10 for a count or name length above 64": its kind, and a byte that is at most so much
+unfoldable pub parseOpening : (kind most : ℕ) → List ℕ → Parsed
+parseOpening kind most s =
+    demandBytes kindSize s (Refused (faultAt incomplete 0))
+    (demand (eqb (getD s 0 0) kind) (Refused (faultAt unknownKind 0))
+    (demandBytes openingSize s (Refused (faultAt incomplete kindSize))
+    (demand (leb (getD s kindSize 0) most) (Refused (faultAt tooLong kindSize))
+    (Taken openingSize))))
 
 -- ---- an entry's record: what its fields are
 
@@ -63,12 +74,7 @@ parseName s =
 
 -- "kind 2: name length (1), name filled with zeros to 64": up to the type
 unfoldable pub parseNamed : List ℕ → Parsed
-parseNamed s =
-    demandBytes kindSize s (Refused (faultAt incomplete 0))
-    (demand (eqb (getD s 0 0) entryKind) (Refused (faultAt unknownKind 0))
-    (demandBytes namePlace s (Refused (faultAt incomplete nameLengthPlace))
-    (demand (leb (nameLengthIn s) maxNameLength) (Refused (faultAt tooLong nameLengthPlace))
-    (parseName s))))
+parseNamed s = andThen Refused (parseOpening entryKind maxNameLength s) (λ n. parseName s)
 
 -- "the value's own as for a local value of its stated length", and its filling
 unfoldable pub parseValueIn : List ℕ → Parsed
@@ -111,12 +117,7 @@ countIn s = getD s kindSize 0
 
 -- "Kind 1: entry count (1 byte)"; "10 for a count .. above 64", the limit of a table
 unfoldable pub parseCount : (limit : ℕ) → List ℕ → Parsed
-parseCount limit s =
-    demandBytes kindSize s (Refused (faultAt incomplete 0))
-    (demand (eqb (getD s 0 0) countKind) (Refused (faultAt unknownKind 0))
-    (demandBytes countRecordSize s (Refused (faultAt incomplete kindSize))
-    (demand (leb (countIn s) limit) (Refused (faultAt tooLong kindSize))
-    (Taken countRecordSize))))
+parseCount limit s = parseOpening countKind limit s
 
 unfoldable pub readSaved : (limit : ℕ) → List ℕ → Reading
 readSaved limit s = andThen refused (parseCount limit s) (λ n. readRecords (countIn s) [] n (drop n s))

@@ -9,10 +9,13 @@ pub const COUNT_KIND: u8 = 1;
 
 pub const ENTRY_KIND: u8 = 2;
 
-// Where the fields of an entry's record start. The first record has its count behind the kind.
+// Every record opens with its kind and a byte: the count, or the name's length.
+pub const OPENING_SIZE: usize = message::KIND_SIZE + 1;
+
+// Where the fields of an entry's record start.
 pub const NAME_LENGTH_PLACE: usize = message::KIND_SIZE;
 
-pub const NAME_PLACE: usize = NAME_LENGTH_PLACE + 1;
+pub const NAME_PLACE: usize = OPENING_SIZE;
 
 pub const TYPE_PLACE: usize = NAME_PLACE + table::NAME_SIZE;
 
@@ -23,7 +26,7 @@ pub const VALUE_LENGTH_PLACE: usize = NUMBER_PLACE + field::NUMBER_SIZE;
 pub const VALUE_PLACE: usize = VALUE_LENGTH_PLACE + field::NUMBER_SIZE;
 
 // How many bytes the first record has, and an entry's.
-pub const COUNT_RECORD_SIZE: usize = message::KIND_SIZE + 1;
+pub const COUNT_RECORD_SIZE: usize = OPENING_SIZE;
 
 pub const ENTRY_RECORD_SIZE: usize = VALUE_PLACE + table::VALUE_SIZE;
 

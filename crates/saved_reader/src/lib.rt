@@ -22,8 +22,27 @@ ghost use lib.ListN.{length};
 ghost use Rattle.value.specs.Value.{maxValueSize};
 ghost use Rattle.message.specs.Layout.{maxNameLength};
 ghost use Rattle.table.specs.Table.{maxEntries};
-ghost use Rattle.saved.specs.Reading.{nameLengthIn, typeIn, valueLengthIn, allZero, parseFilling, parseName, parseNamed};
+ghost use Rattle.saved.specs.Reading.{parseOpening, nameLengthIn, typeIn, valueLengthIn, allZero, parseFilling, parseName, parseNamed};
 ghost use Rattle.saved.specs.Reading.{parseValueIn, parseValued, parseRecord, parseCount};
+
+// How a record opens: its kind, and a byte that is at most so much.
+fn read_opening(s: &[u8], kind: u8, most: usize) -> Parsed
+    ensures { λ r. ⌜ r ≡ parseOpening kind most (now (s .entry)) ⌝ }
+{
+    let Octet::There(found) = field::read_u8(s, 0) else {
+        return Parsed::Refused(field::fault_at(INCOMPLETE, 0));
+    };
+    if found != kind {
+        return Parsed::Refused(field::fault_at(UNKNOWN_KIND, 0));
+    }
+    let Octet::There(amount) = field::read_u8(s, message::KIND_SIZE) else {
+        return Parsed::Refused(field::fault_at(INCOMPLETE, message::KIND_SIZE));
+    };
+    if amount as usize > most {
+        return Parsed::Refused(field::fault_at(TOO_LONG, message::KIND_SIZE));
+    }
+    Parsed::Taken(saved::OPENING_SIZE)
+}
 
 // The larger of two bytes: 0 where both are.
 fn larger(a: u8, b: u8) -> u8
@@ -78,20 +97,11 @@ fn read_name(s: &[u8], name_length: usize) -> Parsed
 fn read_named(s: &[u8]) -> Parsed
     ensures { λ r. ⌜ r ≡ parseNamed (now (s .entry)) ⌝ }
 {
-    let Octet::There(kind) = field::read_u8(s, 0) else {
-        return Parsed::Refused(field::fault_at(INCOMPLETE, 0));
+    let opening = read_opening(s, saved::ENTRY_KIND, table::NAME_SIZE);
+    let Parsed::Taken(_n) = opening else {
+        return opening;
     };
-    if kind != saved::ENTRY_KIND {
-        return Parsed::Refused(field::fault_at(UNKNOWN_KIND, 0));
-    }
-    let Octet::There(name_length) = field::read_u8(s, NAME_LENGTH_PLACE) else {
-        return Parsed::Refused(field::fault_at(INCOMPLETE, NAME_LENGTH_PLACE));
-    };
-    let n = name_length as usize;
-    if n > table::NAME_SIZE {
-        return Parsed::Refused(field::fault_at(TOO_LONG, NAME_LENGTH_PLACE));
-    }
-    read_name(s, n)
+    read_name(s, s[NAME_LENGTH_PLACE] as usize)
 }
 
 // A value of so many bytes, judged alone, and its filling.
@@ -149,17 +159,5 @@ pub fn read_record(s: &[u8]) -> Parsed
 pub fn read_count(s: &[u8]) -> Parsed
     ensures { λ r. ⌜ r ≡ parseCount maxEntries (now (s .entry)) ⌝ }
 {
-    let Octet::There(kind) = field::read_u8(s, 0) else {
-        return Parsed::Refused(field::fault_at(INCOMPLETE, 0));
-    };
-    if kind != saved::COUNT_KIND {
-        return Parsed::Refused(field::fault_at(UNKNOWN_KIND, 0));
-    }
-    let Octet::There(count) = field::read_u8(s, message::KIND_SIZE) else {
-        return Parsed::Refused(field::fault_at(INCOMPLETE, message::KIND_SIZE));
-    };
-    if count as usize > table::MAX_ENTRIES {
-        return Parsed::Refused(field::fault_at(TOO_LONG, message::KIND_SIZE));
-    }
-    Parsed::Taken(saved::COUNT_RECORD_SIZE)
+    read_opening(s, saved::COUNT_KIND, table::MAX_ENTRIES)
 }

@@ -7,9 +7,8 @@ use borrow.Author.Needs.{needs}
 use Rattle.table.specs.Table.{maxEntries}
 use Rattle.saved.specs.Form.{countRecordSize}
 use Rattle.saved.specs.Reading.{countIn}
-use Rattle.saved.proofs.ReadingLaws.{count-taken}
 use Rattle.load.specs.Records.{told}
-use Rattle.load.proofs.RecordsLaws.{form-stop, form-counted}
+use Rattle.load.proofs.RecordsLaws.{count-taken, form-stop, form-counted}
 use Rattle.load.proofs.read_form.Statement.{statement}
 use Rattle.load.proofs.read_form.Tie as tie
 
