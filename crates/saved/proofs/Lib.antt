@@ -4,3 +4,4 @@ pub mod BackLaws
 pub mod ReadingLaws
 pub mod StoringLaws
 pub mod LoadedLaws
+pub mod Computed
