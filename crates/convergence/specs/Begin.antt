@@ -31,7 +31,7 @@ pub record LoadsNothing (m : TableMemory) (r : LoadResult) : Type 0 where
   pub not-done : r .answer .number ≢ done
   pub unchanged : r .table ≡ m
 
--- "Loading asks that all connections are closed": while one is not, nothing is loaded.
+-- "Loading asks that all connections are closed": while one is not, nothing is loaded; on sound memory the answer is 3 (`FirstRefused` of `saved`).
 -- So a load in the middle of a run changes nothing while the client of demand 3 is there
 abbrev pub LoadWhileConnected : Type 0
 LoadWhileConnected =

@@ -69,7 +69,7 @@ unsound = 14
 abbrev pub badFilling : ℕ
 badFilling = 15
 
--- "A refusal (1 to 14)"
+-- "A refusal (1 to 14)", of a call of 01; loading has 15 too
 pub record RefusalNumber (number : ℕ) : Type 0 where
   pub above : incomplete ≤ number
   pub below : number ≤ unsound

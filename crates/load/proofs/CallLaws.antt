@@ -17,14 +17,14 @@ use Rattle.table.specs.Table.{TableMemory, emptied, tabulate}
 use Rattle.soundness.specs.Sound.{soundTable, soundMarks}
 use Rattle.saved.specs.Reading.{Reading, refused, read, readSaved}
 use Rattle.saved.specs.Calls.{LoadResult, loadResult, allClosed, storeAll, loadRead, load}
-use Rattle.load.specs.Records.{entryOf, told}
+use Rattle.load.specs.Records.{savedEntry, outcome}
 use Rattle.load.proofs.RecordsLaws.{form-read}
 
 isTaken : Parsed → ℕ
 isTaken (Refused fault) = 0
 isTaken (Taken n) = 1
 
-read-refused : (m : TableMemory) (taken : ℕ) (p : Parsed) (fault : Fault) (r : Reading) → p ≡ told r → p ≡ Refused fault → loadRead m taken r ≡ loadResult (refusedAnswer (faultOf p)) m
+read-refused : (m : TableMemory) (taken : ℕ) (p : Parsed) (fault : Fault) (r : Reading) → p ≡ outcome r → p ≡ Refused fault → loadRead m taken r ≡ loadResult (refusedAnswer (faultOf p)) m
 unfolding isTaken
 read-refused m taken p fault (refused f) e q = ap (λ (x : Parsed). loadResult (refusedAnswer (faultOf x)) m) (sym e)
 read-refused m taken p fault (read es) e q = absurd (omega (arith, ap isTaken e, ap isTaken q))
@@ -44,11 +44,11 @@ module _ (limit : ℕ) (m : TableMemory) (marks s : List ℕ) where
       unfolding load pick reportedPlace
       load-connected h = rw (sound, marked, h)
 
-      module _ (closed : allClosed marks ≡ true) (p : Parsed) (judged : p ≡ told (readSaved limit s)) where
+      module _ (closed : allClosed marks ≡ true) (p : Parsed) (judged : p ≡ outcome (readSaved limit s)) where
         pub load-refused : (fault : Fault) → p ≡ Refused fault → loadResult (refusedAnswer (faultOf p)) m ≡ load limit m marks s
         unfolding load pick
         load-refused fault e = rw (sound, marked, closed, read-refused m (length s) p fault (readSaved limit s) judged e)
 
-        pub load-stored : (n : ℕ) → p ≡ Taken n → loadResult (doneAnswer 0 (length s) 0) (storeAll (emptied m) (tabulate n (entryOf s))) ≡ load limit m marks s
+        pub load-stored : (n : ℕ) → p ≡ Taken n → loadResult (doneAnswer 0 (length s) 0) (storeAll (emptied m) (tabulate n (savedEntry s))) ≡ load limit m marks s
         unfolding load pick
         load-stored n e = rw (sound, marked, closed, form-read limit s n (sym judged ∙ e) .0)

@@ -7,11 +7,11 @@ use Rattle.field.specs.declared.Parsed.the-variants.{Refused, Taken}
 use Rattle.value.specs.Value.{maxValueSize}
 use Rattle.message.specs.Layout.{Entry, maxNameLength}
 use Rattle.saved.specs.Form.{entryRecordSize, savedSize}
-use Rattle.saved.specs.Reading.{Reading, refused, read, nameLengthIn, valueLengthIn, entryIn}
+use Rattle.saved.specs.Reading.{Reading, refused, read, nameLengthIn, valueLengthIn, recordEntry}
 
 -- the entry in record i
-unfoldable pub entryOf : List ℕ → ℕ → Entry
-entryOf s i = entryIn (drop (savedSize i) s)
+unfoldable pub savedEntry : List ℕ → ℕ → Entry
+savedEntry s i = recordEntry (drop (savedSize i) s)
 
 -- a record is there, and its lengths are within the limits
 pub record Storable (s : List ℕ) : Type 0 where
@@ -24,6 +24,6 @@ abbrev pub Records : ℕ → List ℕ → Type 0
 Records count s = (i : ℕ) → i < count → Storable (drop (savedSize i) s)
 
 -- a reading's refusal, or how many entries were read
-abbrev pub told : Reading → Parsed
-told (refused fault) = Refused fault
-told (read es) = Taken (length es)
+abbrev pub outcome : Reading → Parsed
+outcome (refused fault) = Refused fault
+outcome (read es) = Taken (length es)

@@ -17,16 +17,16 @@ ghost use Rattle.table.specs.Table.{Holds, tableMemory, lent, tabulate, emptied
 ghost use Rattle.soundness.specs.Fingerprint.{fingerprints, several, Covers};
 ghost use Rattle.soundness.specs.Sound.{connections};
 ghost use Rattle.saved.specs.Form.{countRecordSize};
-ghost use Rattle.saved.specs.Reading.{entryIn, readRecords, readSaved};
+ghost use Rattle.saved.specs.Reading.{recordEntry, readRecords, readSaved};
 ghost use Rattle.saved.specs.Calls as calls;
-ghost use Rattle.load.specs.Records.{entryOf, Storable, Records, told};
+ghost use Rattle.load.specs.Records.{savedEntry, Storable, Records, outcome};
 
 // ---- the records judged
 
 // The name in record i.
 fn name_in(s: &[u8], i: usize) -> &[u8]
     requires { ⌜ (i < maxEntries) × Records (i + 1) (now s) ⌝ }
-    ensures { λ r. ⌜ now r ≡ entryOf (now (s .entry)) i .name ⌝ }
+    ensures { λ r. ⌜ now r ≡ savedEntry (now (s .entry)) i .name ⌝ }
 {
     let at = saved::size_of(i);
     let from = at + NAME_PLACE;
@@ -37,7 +37,7 @@ fn name_in(s: &[u8], i: usize) -> &[u8]
 // Whether record i's name is held by a record before it.
 fn name_held(s: &[u8], i: usize) -> bool
     requires { ⌜ (i < maxEntries) × Records (i + 1) (now s) ⌝ }
-    ensures { λ r. ⌜ r ≡ nameHeld (entryOf (now (s .entry)) i .name) (tabulate i (entryOf (now (s .entry)))) ⌝ }
+    ensures { λ r. ⌜ r ≡ nameHeld (savedEntry (now (s .entry)) i .name) (tabulate i (savedEntry (now (s .entry)))) ⌝ }
 {
     let name = name_in(s, i);
     let mut j = 0;
@@ -53,8 +53,8 @@ fn name_held(s: &[u8], i: usize) -> bool
 // The same, where the name's fingerprint has this owner.
 fn held_before(s: &[u8], i: usize, owner: u8) -> bool
     requires records { ⌜ (i < maxEntries) × Records (i + 1) (now s) ⌝ }
-    requires owner { ⌜ Covers i (entryOf (now s)) owner ⌝ }
-    ensures { λ r. ⌜ r ≡ nameHeld (entryOf (now (s .entry)) i .name) (tabulate i (entryOf (now (s .entry)))) ⌝ }
+    requires owner { ⌜ Covers i (savedEntry (now s)) owner ⌝ }
+    ensures { λ r. ⌜ r ≡ nameHeld (savedEntry (now (s .entry)) i .name) (tabulate i (savedEntry (now (s .entry)))) ⌝ }
 {
     if owner == 0 {
         return false;
@@ -71,7 +71,7 @@ fn read_records(s: &[u8], count: usize, owners: &mut [u8]) -> Parsed
     requires bytes { ⌜ (count ≤ maxEntries) × (countRecordSize ≤ length (now s)) ⌝ }
     requires owners { ⌜ fingerprints ≤ length (now owners) ⌝ }
     ensures { λ r.
-        ⌜ r ≡ told (readRecords count [] countRecordSize (drop countRecordSize (now (s .entry)))) ⌝ }
+        ⌜ r ≡ outcome (readRecords count [] countRecordSize (drop countRecordSize (now (s .entry)))) ⌝ }
 {
     let mut at = COUNT_RECORD_SIZE;
     let mut i = 0;
@@ -98,7 +98,7 @@ fn read_records(s: &[u8], count: usize, owners: &mut [u8]) -> Parsed
 // A saved form: a refusal, or how many entries it has.
 fn read_form(s: &[u8], owners: &mut [u8]) -> Parsed
     requires { ⌜ fingerprints ≤ length (now owners) ⌝ }
-    ensures { λ r. ⌜ r ≡ told (readSaved maxEntries (now (s .entry))) ⌝ }
+    ensures { λ r. ⌜ r ≡ outcome (readSaved maxEntries (now (s .entry))) ⌝ }
 {
     let first = saved_reader::read_count(s);
     let Parsed::Taken(_n) = first else {
@@ -109,7 +109,7 @@ fn read_form(s: &[u8], owners: &mut [u8]) -> Parsed
 
 // The same, with memory for the owners of fingerprints.
 fn read_saved(s: &[u8]) -> Parsed
-    ensures { λ r. ⌜ r ≡ told (readSaved maxEntries (now (s .entry))) ⌝ }
+    ensures { λ r. ⌜ r ≡ outcome (readSaved maxEntries (now (s .entry))) ⌝ }
 {
     let mut owners = [0u8; soundness::FINGERPRINTS];
     read_form(s, &mut owners)
@@ -121,8 +121,8 @@ fn read_saved(s: &[u8]) -> Parsed
 fn store_record(heads: &mut [u16], bytes: &mut [u8], i: usize, s: &[u8])
     requires memory { ⌜ (i < maxEntries) × Holds maxEntries (now heads) (now bytes) ⌝ }
     requires record { ⌜ Storable (now s) ⌝ }
-    ensures heads { λ _. ⌜ now (heads .exit) ≡ headsWithEntry (now (heads .entry)) i (entryIn (now (s .entry))) ⌝ }
-    ensures bytes { λ _. ⌜ now (bytes .exit) ≡ bytesWithEntry (now (bytes .entry)) i (entryIn (now (s .entry))) ⌝ }
+    ensures heads { λ _. ⌜ now (heads .exit) ≡ headsWithEntry (now (heads .entry)) i (recordEntry (now (s .entry))) ⌝ }
+    ensures bytes { λ _. ⌜ now (bytes .exit) ≡ bytesWithEntry (now (bytes .entry)) i (recordEntry (now (s .entry))) ⌝ }
 {
     let name_end = NAME_PLACE + (s[NAME_LENGTH_PLACE] as usize);
     let value_end = VALUE_PLACE + (field::u16_at(s, VALUE_LENGTH_PLACE) as usize);
@@ -145,7 +145,7 @@ fn store_records(heads: &mut [u16], bytes: &mut [u8], s: &[u8], count: usize)
     requires records { ⌜ Records count (now s) ⌝ }
     ensures { λ _.
         ⌜ lent (heads .exit) (bytes .exit) count
-        ≡ calls.storeAll (lent (heads .entry) (bytes .entry) 0) (tabulate count (entryOf (now (s .entry)))) ⌝ }
+        ≡ calls.storeAll (lent (heads .entry) (bytes .entry) 0) (tabulate count (savedEntry (now (s .entry)))) ⌝ }
 {
     let mut i = 0;
     while i < count {

@@ -67,7 +67,7 @@ headsAnswered r m out = record { result = answered r (serverOf m) out; past = pa
 abbrev pub headsStep : HeadsServer → LentCall → WithPast (WithPlace CallResult)
 headsStep m k = record { result = stepWithPlace maxEntries (serverOf m) k; past = pastTable (m .table) }
 
--- a load
+-- a load; the marks are only read
 abbrev pub headsLoaded : Answer → HeadsTable → WithPast LoadResult
 headsLoaded r t = record { result = loadResult r (tableOf t); past = pastTable t }
 

@@ -15,7 +15,7 @@ use Rattle.value.proofs.ValueLaws.{value-small, value-known, lone-taken}
 use Rattle.message.specs.Layout.{Entry, WellFormed, maxNameLength}
 use Rattle.table.specs.Table.{part}
 use Rattle.saved.specs.Form.{entryKind, openingSize, namePlace, typePlace, numberPlace, valueLengthPlace, valuePlace, entryRecordSize, entryRecord}
-use Rattle.saved.specs.Reading.{allZero, nameLengthIn, typeIn, valueLengthIn, entryIn, parseOpening, parseFilling, parseName, parseNamed, parseValueIn, parseValued, parseRecord}
+use Rattle.saved.specs.Reading.{allZero, nameLengthIn, typeIn, valueLengthIn, recordEntry, parseOpening, parseFilling, parseNameIn, parseUpToType, parseValueIn, parseFromType, parseRecord}
 use Rattle.saved.proofs.ZeroLaws.{all-zero}
 use Rattle.saved.proofs.RecordLaws.{NamedFacts, ValuedFacts, recordThen, record-then}
 
@@ -25,8 +25,8 @@ pub opening-taken : (kind most : ℕ) (s : List ℕ) → getD s 0 0 ≡ kind →
 unfolding parseOpening pick
 opening-taken kind most s e l h = rw (le-leb 1 (length s) (omega arith), eq-eqb (getD s 0 0) kind e, le-leb openingSize (length s) h, le-leb (getD s 1 0) most l)
 
-named-taken : (s : List ℕ) → NamedFacts s → entryRecordSize ≤ length s → parseNamed s ≡ Taken typePlace
-unfolding parseNamed parseName parseFilling pick
+named-taken : (s : List ℕ) → NamedFacts s → entryRecordSize ≤ length s → parseUpToType s ≡ Taken typePlace
+unfolding parseUpToType parseNameIn parseFilling pick
 named-taken s f h =
     rw (
       opening-taken entryKind maxNameLength s (f .kind-is) (f .name-small) (omega arith),
@@ -36,8 +36,8 @@ named-taken s f h =
       f .name-filled,
     )
 
-valued-taken : (s : List ℕ) → ValuedFacts s → parseValued s ≡ Taken entryRecordSize
-unfolding parseValued parseValueIn parseFilling pick
+valued-taken : (s : List ℕ) → ValuedFacts s → parseFromType s ≡ Taken entryRecordSize
+unfolding parseFromType parseValueIn parseFilling pick
 valued-taken s g =
     rw (
       le-leb numberPlace (length s) (omega (arith, g .whole)),
@@ -179,6 +179,6 @@ module _ (e : Entry) (rest : List ℕ) (w : WellFormed e) where
   pub record-rest : drop entryRecordSize (entryRecord e ++ rest) ≡ rest
   record-rest = rw (record-then e rest) behind
 
-  pub record-entry : entryIn (entryRecord e ++ rest) ≡ e
-  unfolding entryIn
+  pub record-entry : recordEntry (entryRecord e ++ rest) ≡ e
+  unfolding recordEntry
   record-entry = rw (record-then e rest) (λ i. record { name = name-at i; type = type-at i; number = number-at i; value = value-at i })

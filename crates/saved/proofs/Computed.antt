@@ -6,7 +6,7 @@ use Rattle.utf8.specs.Utf8.{afterFirst, afterByte, utf8From, isUtf8}
 use Rattle.value.specs.Value.{knownType, parseBoolean, parseElement, parseValue, parseLone}
 use Rattle.table.specs.Names.{holder, nameHeld}
 use Rattle.saved.specs.Form.{filled, countRecord, entryRecord, entryRecords, savedForm}
-use Rattle.saved.specs.Reading.{parseOpening, entryIn, allZero, parseFilling, parseName, parseNamed, parseValueIn, parseValued, parseRecord, readRecords, parseCount, readSaved}
+use Rattle.saved.specs.Reading.{parseOpening, recordEntry, allZero, parseFilling, parseNameIn, parseUpToType, parseValueIn, parseFromType, parseRecord, readRecords, parseCount, readSaved}
 use Rattle.saved.specs.Examples.{FormOfExample, ReadingsOfExample}
 
 pub form-of-example : FormOfExample
@@ -14,7 +14,7 @@ unfolding encode16 filled countRecord entryRecord entryRecords savedForm
 form-of-example = refl
 
 pub readings-of-example : ReadingsOfExample
-unfolding pick decode16 bytesEqual afterFirst afterByte utf8From isUtf8 knownType parseBoolean parseElement parseValue parseLone holder nameHeld parseOpening entryIn allZero parseFilling parseName parseNamed parseValueIn parseValued parseRecord readRecords parseCount readSaved
+unfolding pick decode16 bytesEqual afterFirst afterByte utf8From isUtf8 knownType parseBoolean parseElement parseValue parseLone holder nameHeld parseOpening recordEntry allZero parseFilling parseNameIn parseUpToType parseValueIn parseFromType parseRecord readRecords parseCount readSaved
 readings-of-example =
     record {
       whole = refl;
@@ -25,6 +25,7 @@ readings-of-example =
       bytes-left = refl;
       entry-kind = refl;
       name-length = refl;
+      name-empty = refl;
       name-text = refl;
       name-filling = refl;
       other-type = refl;
@@ -36,4 +37,7 @@ readings-of-example =
       nothing = refl;
       cut = refl;
       same-name = refl;
+      same-name-first = refl;
+      same-name-left = refl;
+      same-name-last = refl;
     }

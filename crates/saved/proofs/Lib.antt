@@ -4,4 +4,5 @@ pub mod BackLaws
 pub mod ReadingLaws
 pub mod StoringLaws
 pub mod LoadedLaws
+pub mod AnsweredLaws
 pub mod Computed

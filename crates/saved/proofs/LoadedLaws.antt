@@ -58,6 +58,7 @@ written limit m s out form e n l =
     let all : overwriteAt out 0 form ≡ form ++ drop (length form) out = rw zero-add at (overwrite-eq out 0 form (omega arith)) in
     record {
       table-sound = s;
+      room = omega (arith, n);
       size = refl;
       form = rw all (take-at form (drop (length form) out) (savedSize (m .count)) n) ∙ e;
       rest = rw all (drop-at form (drop (length form) out) (savedSize (m .count)) n) ∙ ap (λ (k : ℕ). drop k out) n;

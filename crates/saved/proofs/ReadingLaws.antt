@@ -22,7 +22,7 @@ use Rattle.table.specs.Table.{defaultEntry}
 use Rattle.table.proofs.NamesLaws.{differ-last, differ-at, at-differ}
 use Rattle.soundness.proofs.StoredLaws.{AllWellFormed}
 use Rattle.saved.specs.Form.{countKind, countRecordSize, entryRecordSize, savedSize, countRecord, entryRecord, entryRecords, savedForm}
-use Rattle.saved.specs.Reading.{Reading, refused, read, entryIn, parseOpening, parseRecord, countIn, parseCount, readRecords, readSaved}
+use Rattle.saved.specs.Reading.{Reading, refused, read, recordEntry, parseOpening, parseRecord, countIn, parseCount, readRecords, readSaved}
 use Rattle.saved.proofs.RecordLaws.{OpeningIs, opening-is, RecordIs, record-is, record-of-entry, entry-obeys}
 use Rattle.saved.proofs.BackLaws.{opening-taken, length-record, record-taken, record-rest, record-entry}
 
@@ -63,11 +63,11 @@ records-are (suc count) xs place s = go (parseRecord s) (record-is s) (λ e n. r
     go : (r : Parsed) → RecordIs s r
         → ((e : Entry) (n : ℕ) → RecordsAre count (xs ++ (e ∷ [])) (drop n s) (readRecords count (xs ++ (e ∷ [])) (place + n) (drop n s)))
         → RecordsAre (suc count) xs s (andThen refused (movedBy place r) (λ n.
-        pick (nameHeld (entryIn s .name) xs) (refused (faultAt nameTaken place)) (readRecords count (xs ++ (entryIn s ∷ [])) (place + n) (drop n s))))
+        pick (nameHeld (recordEntry s .name) xs) (refused (faultAt nameTaken place)) (readRecords count (xs ++ (recordEntry s ∷ [])) (place + n) (drop n s))))
     go (Refused fault) (RecordIs.refused h l) ih = RecordsAre.rejected {fault = faultAt (fault .number) (place + fault .place)} h
     go (Taken n) (RecordIs.taken f g) ih =
         by-test (RecordsAre (suc count) xs s) _ _ _ (λ _. RecordsAre.rejected {fault = faultAt nameTaken place} (omega arith)) (λ new.
-        read-next count xs s (entryIn s) (record-of-entry s f g) (entry-obeys s f g) new _ (ih (entryIn s) entryRecordSize))
+        read-next count xs s (recordEntry s) (record-of-entry s f g) (entry-obeys s f g) new _ (ih (recordEntry s) entryRecordSize))
 
 -- ---- the first record
 

@@ -24,7 +24,7 @@ use Rattle.message.specs.Reader.{Bytes}
 use Rattle.message.proofs.RefusalLaws.{RefusedRightly, lone-rightly}
 use Rattle.table.specs.Table.{part}
 use Rattle.saved.specs.Form.{entryKind, openingSize, namePlace, typePlace, numberPlace, valueLengthPlace, valuePlace, entryRecordSize, filled, entryRecord}
-use Rattle.saved.specs.Reading.{allZero, nameLengthIn, typeIn, valueLengthIn, entryIn, parseOpening, parseFilling, parseName, parseNamed, parseValueIn, parseValued, parseRecord}
+use Rattle.saved.specs.Reading.{allZero, nameLengthIn, typeIn, valueLengthIn, recordEntry, parseOpening, parseFilling, parseNameIn, parseUpToType, parseValueIn, parseFromType, parseRecord}
 use Rattle.saved.proofs.ZeroLaws.{zeros}
 
 -- ---- how a record opens
@@ -88,11 +88,11 @@ no-name number place h l = NamedIs.refused {fault = faultAt number place} h l
 no-value : {s : List ℕ} (number place : ℕ) → 1 ≤ number → place ≤ entryRecordSize → ValuedIs s (Refused (faultAt number place))
 no-value number place h l = ValuedIs.refused {fault = faultAt number place} h l
 
-named-is : (s : List ℕ) → NamedIs s (parseNamed s)
-unfolding parseNamed parseName parseFilling
+named-is : (s : List ℕ) → NamedIs s (parseUpToType s)
+unfolding parseUpToType parseNameIn parseFilling
 named-is s = go (parseOpening entryKind maxNameLength s) (opening-is entryKind maxNameLength s)
   where
-    named : getD s 0 0 ≡ entryKind → nameLengthIn s ≤ maxNameLength → NamedIs s (parseName s)
+    named : getD s 0 0 ≡ entryKind → nameLengthIn s ≤ maxNameLength → NamedIs s (parseNameIn s)
     named kind small =
         let behind : namePlace + nameLengthIn s ≤ entryRecordSize = omega arith in
         by-test (NamedIs s) _ _ _ (λ h1.
@@ -103,12 +103,12 @@ named-is s = go (parseOpening entryKind maxNameLength s) (opening-is entryKind m
         (λ _. no-name badFilling (namePlace + nameLengthIn s) (omega arith) behind)) (λ _. no-name incomplete (namePlace + nameLengthIn s) (omega arith) behind))
         (λ _. no-name notUtf8 namePlace (omega arith) (omega arith))) (λ _. no-name incomplete namePlace (omega arith) (omega arith))
 
-    go : (r : Parsed) → OpeningIs entryKind maxNameLength s r → NamedIs s (andThen Refused r (λ n. parseName s))
+    go : (r : Parsed) → OpeningIs entryKind maxNameLength s r → NamedIs s (andThen Refused r (λ n. parseNameIn s))
     go (Refused fault) (OpeningIs.refused h l) = NamedIs.refused {fault = fault} h (omega (arith, l))
     go (Taken n) (OpeningIs.opened kind small there) = named kind small
 
-valued-is : (s : List ℕ) → ValuedIs s (parseValued s)
-unfolding parseValued parseValueIn parseFilling
+valued-is : (s : List ℕ) → ValuedIs s (parseFromType s)
+unfolding parseFromType parseValueIn parseFilling
 valued-is s =
     by-test (ValuedIs s) _ _ _ (λ h1.
     by-test (ValuedIs s) _ _ _ (λ known.
@@ -140,15 +140,15 @@ valued-is s =
 
 pub record-is : (s : List ℕ) → RecordIs s (parseRecord s)
 unfolding parseRecord
-record-is s = go (parseNamed s) (named-is s)
+record-is s = go (parseUpToType s) (named-is s)
   where
     end : NamedFacts s → (r : Parsed) → ValuedIs s r → RecordIs s r
     end f (Refused fault) (ValuedIs.refused h l) = RecordIs.refused h l
     end f (Taken n) (ValuedIs.taken g) = RecordIs.taken f g
 
-    go : (r : Parsed) → NamedIs s r → RecordIs s (andThen Refused r (λ n. parseValued s))
+    go : (r : Parsed) → NamedIs s r → RecordIs s (andThen Refused r (λ n. parseFromType s))
     go (Refused fault) (NamedIs.refused h l) = RecordIs.refused h l
-    go (Taken n) (NamedIs.taken f) = end f (parseValued s) (valued-is s)
+    go (Taken n) (NamedIs.taken f) = end f (parseFromType s) (valued-is s)
 
 -- ---- a record and what follows, field by field
 
@@ -192,67 +192,67 @@ encode-at k s o h =
 -- ---- the record is its entry's
 
 module _ (s : List ℕ) (f : NamedFacts s) (g : ValuedFacts s) where
-  name-long : length (entryIn s .name) ≡ nameLengthIn s
-  unfolding entryIn
+  name-long : length (recordEntry s .name) ≡ nameLengthIn s
+  unfolding recordEntry
   name-long = length-part namePlace (nameLengthIn s) s (omega (arith, f .name-small, g .whole))
 
-  value-long : length (entryIn s .value) ≡ valueLengthIn s
-  unfolding entryIn
+  value-long : length (recordEntry s .value) ≡ valueLengthIn s
+  unfolding recordEntry
   value-long = length-part valuePlace (valueLengthIn s) s (omega (arith, g .value-small, g .whole))
 
-  pub entry-obeys : WellFormed (entryIn s)
-  unfolding entryIn
+  pub entry-obeys : WellFormed (recordEntry s)
+  unfolding recordEntry
   entry-obeys =
       let v : IsValue (typeIn s) (part valuePlace (valueLengthIn s) s) = g .value-is in
       record { name-fits = omega (arith, name-long, f .name-small); name-text = f .name-text; value-whole = v }
 
   module _ (o : Bytes s) where
-    from-0 : s ≡ entryKind ∷ length (entryIn s .name) ∷ drop namePlace s
+    from-0 : s ≡ entryKind ∷ length (recordEntry s .name) ∷ drop namePlace s
     from-0 =
         let a : drop 0 s ≡ getD s 0 0 ∷ drop 1 s = drop-cons s 0 0 (omega (arith, g .whole)) in
         let b : drop 1 s ≡ getD s 1 0 ∷ drop 2 s = drop-cons s 1 0 (omega (arith, g .whole)) in
         a ∙ ap (λ (l : List ℕ). getD s 0 0 ∷ l) b ∙ rw (f .kind-is, name-long)
 
-    from-name : drop namePlace s ≡ entryIn s .name ++ drop (namePlace + nameLengthIn s) s
-    unfolding entryIn
+    from-name : drop namePlace s ≡ recordEntry s .name ++ drop (namePlace + nameLengthIn s) s
+    unfolding recordEntry
     from-name = split-part namePlace (nameLengthIn s) s
 
-    behind-name : drop (namePlace + nameLengthIn s) s ≡ replicate (maxNameLength - length (entryIn s .name)) 0 ++ drop typePlace s
+    behind-name : drop (namePlace + nameLengthIn s) s ≡ replicate (maxNameLength - length (recordEntry s .name)) 0 ++ drop typePlace s
     behind-name =
-        zero-part (namePlace + nameLengthIn s) typePlace (maxNameLength - length (entryIn s .name)) s (omega (arith, f .name-small, name-long))
+        zero-part (namePlace + nameLengthIn s) typePlace (maxNameLength - length (recordEntry s .name)) s (omega (arith, f .name-small, name-long))
         (omega (arith, g .whole)) (f .name-filled)
 
-    from-type : drop typePlace s ≡ entryIn s .type ∷ drop numberPlace s
-    unfolding entryIn
+    from-type : drop typePlace s ≡ recordEntry s .type ∷ drop numberPlace s
+    unfolding recordEntry
     from-type = drop-cons s typePlace 0 (omega (arith, g .whole))
 
-    from-number : drop numberPlace s ≡ encode16 (entryIn s .number) ++ drop valueLengthPlace s
-    unfolding entryIn
+    from-number : drop numberPlace s ≡ encode16 (recordEntry s .number) ++ drop valueLengthPlace s
+    unfolding recordEntry
     from-number = encode-at numberPlace s o (omega (arith, g .whole))
 
-    from-length : drop valueLengthPlace s ≡ encode16 (length (entryIn s .value)) ++ drop valuePlace s
+    from-length : drop valueLengthPlace s ≡ encode16 (length (recordEntry s .value)) ++ drop valuePlace s
     from-length = encode-at valueLengthPlace s o (omega (arith, g .whole)) ∙ rw value-long
 
-    from-value : drop valuePlace s ≡ entryIn s .value ++ drop (valuePlace + valueLengthIn s) s
-    unfolding entryIn
+    from-value : drop valuePlace s ≡ recordEntry s .value ++ drop (valuePlace + valueLengthIn s) s
+    unfolding recordEntry
     from-value = split-part valuePlace (valueLengthIn s) s
 
-    behind-value : drop (valuePlace + valueLengthIn s) s ≡ replicate (maxValueSize - length (entryIn s .value)) 0 ++ drop entryRecordSize s
+    behind-value : drop (valuePlace + valueLengthIn s) s ≡ replicate (maxValueSize - length (recordEntry s .value)) 0 ++ drop entryRecordSize s
     behind-value =
-        zero-part (valuePlace + valueLengthIn s) entryRecordSize (maxValueSize - length (entryIn s .value)) s (omega (arith, g .value-small, value-long))
+        zero-part (valuePlace + valueLengthIn s) entryRecordSize (maxValueSize - length (recordEntry s .value)) s (omega (arith, g .value-small, value-long))
         (g .whole) (g .value-filled)
 
-    pub record-of-entry : s ≡ entryRecord (entryIn s) ++ drop entryRecordSize s
-    record-of-entry = all ∙ sym (record-then (entryIn s) (drop entryRecordSize s))
+    pub record-of-entry : s ≡ entryRecord (recordEntry s) ++ drop entryRecordSize s
+    record-of-entry = all ∙ sym (record-then (recordEntry s) (drop entryRecordSize s))
       where
-        all : s ≡ recordThen (entryIn s) (drop entryRecordSize s)
+        all : s ≡ recordThen (recordEntry s) (drop entryRecordSize s)
         all =
             unfold recordThen in
             from-0
-            ∙ ap (λ (l : List ℕ). entryKind ∷ length (entryIn s .name) ∷ l) (from-name
-            ∙ ap (λ (l : List ℕ). entryIn s .name ++ l) (behind-name
-            ∙ ap (λ (l : List ℕ). replicate (maxNameLength - length (entryIn s .name)) 0 ++ l) (from-type
-            ∙ ap (λ (l : List ℕ). entryIn s .type ∷ l) (from-number
-            ∙ ap (λ (l : List ℕ). encode16 (entryIn s .number) ++ l) (from-length
-            ∙ ap (λ (l : List ℕ). encode16 (length (entryIn s .value)) ++ l) (from-value
-            ∙ ap (λ (l : List ℕ). entryIn s .value ++ l) behind-value))))))
+            ∙ ap (λ (l : List ℕ). entryKind ∷ length (recordEntry s .name) ∷ l) (from-name
+            ∙ ap (λ (l : List ℕ). recordEntry s .name ++ l) (behind-name
+            ∙ ap (λ (l : List ℕ). replicate (maxNameLength - length (recordEntry s .name)) 0 ++ l) (from-type
+            ∙ ap (λ (l : List ℕ). recordEntry s .type ∷ l) (from-number
+            ∙ ap (λ (l : List ℕ). encode16 (recordEntry s .number) ++ l) (from-length
+            ∙ ap (λ (l : List ℕ). encode16 (length (recordEntry s .value)) ++ l) (from-value
+            ∙ ap (λ (l : List ℕ). recordEntry s .value ++ l) behind-value))))))

@@ -34,6 +34,7 @@ pub record ReadingsOfExample : Type 0 where
   -- an entry's: kind, name, type, lengths, value, each filling at its first byte
   pub entry-kind : readWith 2 1 ≡ refused (faultAt 4 2)
   pub name-length : readWith 3 65 ≡ refused (faultAt 10 3)
+  pub name-empty : readWith 3 0 ≡ refused (faultAt 15 4)
   pub name-text : readWith 4 255 ≡ refused (faultAt 9 4)
   pub name-filling : readWith 67 1 ≡ refused (faultAt 15 5)
   pub other-type : readWith 68 3 ≡ refused (faultAt 7 68)
@@ -46,3 +47,7 @@ pub record ReadingsOfExample : Type 0 where
   pub nothing : readSaved 64 [] ≡ refused (faultAt 1 0)
   pub cut : readSaved 64 (take 328 exampleForm) ≡ refused (faultAt 1 74)
   pub same-name : readSaved 64 (1 ∷ 2 ∷ (drop 2 exampleForm ++ drop 2 exampleForm)) ≡ refused (faultAt 13 329)
+  -- 13 before the next record's kind, and before bytes left; behind its own filling
+  pub same-name-first : readSaved 64 (1 ∷ 3 ∷ (drop 2 exampleForm ++ (drop 2 exampleForm ++ (9 ∷ [])))) ≡ refused (faultAt 13 329)
+  pub same-name-left : readSaved 64 (1 ∷ 2 ∷ (drop 2 exampleForm ++ (drop 2 exampleForm ++ (9 ∷ [])))) ≡ refused (faultAt 13 329)
+  pub same-name-last : readSaved 64 (1 ∷ 2 ∷ (drop 2 exampleForm ++ drop 2 (set exampleForm 328 1))) ≡ refused (faultAt 15 401)

@@ -45,7 +45,7 @@ countRecordSize = openingSize
 abbrev pub entryRecordSize : ℕ
 entryRecordSize = valuePlace + maxValueSize
 
--- how many bytes the saved form of so many entries has; so record i starts behind that of i entries
+-- how many bytes the saved form of so many entries has; record i starts at that of i
 abbrev pub savedSize : ℕ → ℕ
 savedSize count = countRecordSize + entryRecordSize * count
 

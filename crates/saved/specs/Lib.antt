@@ -2,4 +2,5 @@ pub mod Form
 pub mod Reading
 pub mod Calls
 pub mod Loaded
+pub mod Answered
 pub mod Examples

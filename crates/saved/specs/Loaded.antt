@@ -1,5 +1,5 @@
 -- What holds of saving and loading: theorems.
-use Prim.Native.Nat.{ℕ, _*_, _<_}
+use Prim.Native.Nat.{ℕ, _*_, _≤_, _<_}
 use mathlib.Core.Bool.{true}
 use mathlib.Core.List.{List}
 use mathlib.Core.Path.{_≡_}
@@ -16,9 +16,10 @@ use Rattle.saved.specs.Calls.{SaveResult, LoadResult, save, load, allClo
 
 -- ---- saving
 
--- the table is sound; its saved form has the size that saving answers, and stands first in the output, whose rest is unchanged
+-- the table is sound, and there is room; its saved form has the size that saving answers, and stands first in the output, whose rest is unchanged
 pub record Saved (limit : ℕ) (m : TableMemory) (out : List ℕ) (r : SaveResult) : Type 0 where
   pub table-sound : soundTable limit m ≡ true
+  pub room : savedSize (m .count) ≤ length out
   pub size : r .answer .sent ≡ savedSize (m .count)
   pub form : take (r .answer .sent) (r .output) ≡ savedForm (entriesOf m)
   pub rest : drop (r .answer .sent) (r .output) ≡ drop (r .answer .sent) out
@@ -26,7 +27,7 @@ pub record Saved (limit : ℕ) (m : TableMemory) (out : List ℕ) (r : SaveResul
 abbrev pub SaveGivesForm : Type 0
 SaveGivesForm = (limit : ℕ) (m : TableMemory) (out : List ℕ) → save limit m out .answer .number ≡ done → Saved limit m out (save limit m out)
 
--- "one table has one saved form", and one saved form is that of one table
+-- and the other way: one saved form is that of one table
 abbrev pub OneTableOfForm : Type 0
 OneTableOfForm =
     (limit : ℕ) (m m′ : TableMemory) → soundTable limit m ≡ true → soundTable limit m′ ≡ true → savedForm (entriesOf m) ≡ savedForm (entriesOf m′)
@@ -57,13 +58,14 @@ abbrev pub LoadsWhereClosed : Type 0
 LoadsWhereClosed =
     (limit : ℕ) (m : TableMemory) (marks saved : List ℕ) → load limit m marks saved .answer .number ≡ done → Loadable limit m marks
 
--- what is loaded is the saved form of the entries that the table then holds
+-- what is loaded is the saved form of the entries that the table then holds. It is said of bytes, as every call is lent them: of other lists
+-- two might have one 16-bit number
 abbrev pub LoadsFormsOnly : Type 0
 LoadsFormsOnly =
     (limit : ℕ) (m : TableMemory) (marks saved : List ℕ) → Bytes saved → load limit m marks saved .answer .number ≡ done
     → saved ≡ savedForm (entriesOf (load limit m marks saved .table))
 
--- so two different runs of bytes never load as the same table
+-- "one table has one saved form": so two different runs of bytes never load as the same table
 abbrev pub OneFormOfTable : Type 0
 OneFormOfTable =
     (limit : ℕ) (m m′ : TableMemory) (marks marks′ saved saved′ : List ℕ) → Bytes saved → Bytes saved′

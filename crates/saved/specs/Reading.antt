@@ -43,8 +43,8 @@ abbrev pub valueLengthIn : List ℕ → ℕ
 valueLengthIn s = decode16 (drop valueLengthPlace s)
 
 -- the entry: a name and a value without their filling
-unfoldable pub entryIn : List ℕ → Entry
-entryIn s =
+unfoldable pub recordEntry : List ℕ → Entry
+recordEntry s =
     record {
       name = part namePlace (nameLengthIn s) s;
       type = typeIn s;
@@ -66,15 +66,15 @@ parseFilling from to s =
     (Taken to))
 
 -- the name, and "judged after the text .. it follows" its filling
-unfoldable pub parseName : List ℕ → Parsed
-parseName s =
+unfoldable pub parseNameIn : List ℕ → Parsed
+parseNameIn s =
     demandBytes (namePlace + nameLengthIn s) s (Refused (faultAt incomplete namePlace))
     (demand (isUtf8 (part namePlace (nameLengthIn s) s)) (Refused (faultAt notUtf8 namePlace))
     (parseFilling (namePlace + nameLengthIn s) typePlace s))
 
 -- "kind 2: name length (1), name filled with zeros to 64": up to the type
-unfoldable pub parseNamed : List ℕ → Parsed
-parseNamed s = andThen Refused (parseOpening entryKind maxNameLength s) (λ n. parseName s)
+unfoldable pub parseUpToType : List ℕ → Parsed
+parseUpToType s = andThen Refused (parseOpening entryKind maxNameLength s) (λ n. parseNameIn s)
 
 -- "the value's own as for a local value of its stated length", and its filling
 unfoldable pub parseValueIn : List ℕ → Parsed
@@ -83,9 +83,9 @@ parseValueIn s =
     (andThen Refused (movedBy valuePlace (parseLone (typeIn s) (part valuePlace (valueLengthIn s) s))) (λ n.
     parseFilling (valuePlace + valueLengthIn s) entryRecordSize s))
 
--- "type (1), number (2), value length (2), value filled with zeros to 256": from the type to the record's end
-unfoldable pub parseValued : List ℕ → Parsed
-parseValued s =
+-- "type (1), number (2), value length (2), value filled with zeros to 256": from the type to the record's end, counted from the record's start
+unfoldable pub parseFromType : List ℕ → Parsed
+parseFromType s =
     demandBytes numberPlace s (Refused (faultAt incomplete typePlace))
     (demand (knownType (typeIn s)) (Refused (faultAt unknownType typePlace))
     (demandBytes valueLengthPlace s (Refused (faultAt incomplete numberPlace))
@@ -94,7 +94,7 @@ parseValued s =
     (parseValueIn s)))))
 
 unfoldable pub parseRecord : List ℕ → Parsed
-parseRecord s = andThen Refused (parseNamed s) (λ n. parseValued s)
+parseRecord s = andThen Refused (parseUpToType s) (λ n. parseFromType s)
 
 -- ---- the whole
 
@@ -108,14 +108,14 @@ unfoldable pub readRecords : ℕ → List Entry → (place : ℕ) → List ℕ �
 readRecords zero es place s = demand (leb (length s) 0) (refused (faultAt tooLong place)) (read es)
 readRecords (suc count) es place s =
     andThen refused (movedBy place (parseRecord s)) (λ n.
-    pick (nameHeld (entryIn s .name) es) (refused (faultAt nameTaken place))
-    (readRecords count (es ++ (entryIn s ∷ [])) (place + n) (drop n s)))
+    pick (nameHeld (recordEntry s .name) es) (refused (faultAt nameTaken place))
+    (readRecords count (es ++ (recordEntry s ∷ [])) (place + n) (drop n s)))
 
 -- the entry count, and where it stands
 abbrev pub countIn : List ℕ → ℕ
 countIn s = getD s kindSize 0
 
--- "Kind 1: entry count (1 byte)"; "10 for a count .. above 64", the limit of a table
+-- "Kind 1: entry count (1 byte)"; "10 for a count .. above 64", which is the limit of a table
 unfoldable pub parseCount : (limit : ℕ) → List ℕ → Parsed
 parseCount limit s = parseOpening countKind limit s
 

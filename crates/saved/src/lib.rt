@@ -30,7 +30,7 @@ pub const COUNT_RECORD_SIZE: usize = OPENING_SIZE;
 
 pub const ENTRY_RECORD_SIZE: usize = VALUE_PLACE + table::VALUE_SIZE;
 
-// How many bytes the saved form of so many entries has; so record i starts behind that of i entries.
+// How many bytes the saved form of so many entries has; record i starts at that of i.
 pub fn size_of(count: usize) -> usize
     requires { ⌜ count ≤ maxEntries ⌝ }
     ensures { λ r. ⌜ r ≡ savedSize count ⌝ }

@@ -19,7 +19,7 @@ use Rattle.field.proofs.FieldLaws.{octet-there, octet-missing, number-there, nu
 use Rattle.utf8.specs.Utf8.{isUtf8}
 use Rattle.value.specs.Value.{maxValueSize, knownType, parseLone}
 use Rattle.saved.specs.Form.{namePlace, typePlace, numberPlace, valueLengthPlace, valuePlace, entryRecordSize}
-use Rattle.saved.specs.Reading.{nameLengthIn, typeIn, valueLengthIn, allZero, parseFilling, parseName, parseValueIn, parseValued}
+use Rattle.saved.specs.Reading.{nameLengthIn, typeIn, valueLengthIn, allZero, parseFilling, parseNameIn, parseValueIn, parseFromType}
 
 behind : (a n : ℕ) → a + n - a ≡ n
 behind a n = omega arith
@@ -43,20 +43,20 @@ module _ (s : List ℕ) (from to : ℕ) where
 -- ---- a name of n bytes
 
 module _ (s : List ℕ) (n : ℕ) (sized : n ≡ nameLengthIn s) where
-  pub name-missing : length s < namePlace + n → Refused (faultAt incomplete namePlace) ≡ parseName s
-  unfolding parseName pick
+  pub name-missing : length s < namePlace + n → Refused (faultAt incomplete namePlace) ≡ parseNameIn s
+  unfolding parseNameIn pick
   name-missing h = rw (← sized, lt-leb (namePlace + n) (length s) h)
 
   module _ (good : Bool) (there : namePlace + n ≤ length s) (looked : good ≡ isUtf8 (take (namePlace + n - namePlace) (drop namePlace s))) where
     judged : isUtf8 (take n (drop namePlace s)) ≡ good
     judged = sym (rw (behind namePlace n) at looked)
 
-    pub name-bad : good ≡ false → Refused (faultAt notUtf8 namePlace) ≡ parseName s
-    unfolding parseName pick
+    pub name-bad : good ≡ false → Refused (faultAt notUtf8 namePlace) ≡ parseNameIn s
+    unfolding parseNameIn pick
     name-bad e = rw (← sized, le-leb (namePlace + n) (length s) there, judged ∙ e)
 
-    pub name-good : good ≡ true → parseFilling (namePlace + n) typePlace s ≡ parseName s
-    unfolding parseName pick
+    pub name-good : good ≡ true → parseFilling (namePlace + n) typePlace s ≡ parseNameIn s
+    unfolding parseNameIn pick
     name-good e = rw (← sized, le-leb (namePlace + n) (length s) there, judged ∙ e)
 
 -- ---- a value of n bytes that was read alone
@@ -82,28 +82,28 @@ module _ (s : List ℕ) (n : ℕ) (sized : n ≡ valueLengthIn s) where
 -- ---- from the type on
 
 module _ (s : List ℕ) where
-  pub no-type : O.Missing ≡ octetAt s typePlace → Refused (faultAt incomplete typePlace) ≡ parseValued s
-  unfolding parseValued pick
+  pub no-type : O.Missing ≡ octetAt s typePlace → Refused (faultAt incomplete typePlace) ≡ parseFromType s
+  unfolding parseFromType pick
   no-type e = rw (lt-leb numberPlace (length s) (octet-missing s typePlace e))
 
   module _ (t : ℕ) (known : Bool) (type-is : O.There t ≡ octetAt s typePlace) (looked : known ≡ knownType t) where
     type-known : knownType (typeIn s) ≡ known
     type-known = sym (rw (octet-there s typePlace t type-is .1) at looked)
 
-    pub other-type : known ≡ false → Refused (faultAt unknownType typePlace) ≡ parseValued s
-    unfolding parseValued pick
+    pub other-type : known ≡ false → Refused (faultAt unknownType typePlace) ≡ parseFromType s
+    unfolding parseFromType pick
     other-type e = rw (le-leb numberPlace (length s) (octet-there s typePlace t type-is .0), type-known ∙ e)
 
     module _ (yes : known ≡ true) where
-      behind-type : parseValued s
+      behind-type : parseFromType s
           ≡ demandBytes valueLengthPlace s (Refused (faultAt incomplete numberPlace))
           (demandBytes valuePlace s (Refused (faultAt incomplete valueLengthPlace))
           (demand (leb (valueLengthIn s) maxValueSize) (Refused (faultAt tooLong valueLengthPlace))
           (parseValueIn s)))
-      unfolding parseValued pick
+      unfolding parseFromType pick
       behind-type = rw (le-leb numberPlace (length s) (octet-there s typePlace t type-is .0), type-known ∙ yes)
 
-      pub no-number : N.Missing ≡ numberAt s numberPlace → Refused (faultAt incomplete numberPlace) ≡ parseValued s
+      pub no-number : N.Missing ≡ numberAt s numberPlace → Refused (faultAt incomplete numberPlace) ≡ parseFromType s
       unfolding pick
       no-number e = rw (behind-type, lt-leb valueLengthPlace (length s) (number-missing s numberPlace e))
 
@@ -111,18 +111,18 @@ module _ (s : List ℕ) where
         has-number : leb valueLengthPlace (length s) ≡ true
         has-number = le-leb valueLengthPlace (length s) (number-there s numberPlace number number-is .0)
 
-        pub no-length : N.Missing ≡ numberAt s valueLengthPlace → Refused (faultAt incomplete valueLengthPlace) ≡ parseValued s
+        pub no-length : N.Missing ≡ numberAt s valueLengthPlace → Refused (faultAt incomplete valueLengthPlace) ≡ parseFromType s
         unfolding pick
         no-length e = rw (behind-type, has-number, lt-leb valuePlace (length s) (number-missing s valueLengthPlace e))
 
         module _ (n : ℕ) (length-is : N.There n ≡ numberAt s valueLengthPlace) where
-          pub too-long : maxValueSize < n → Refused (faultAt tooLong valueLengthPlace) ≡ parseValued s
+          pub too-long : maxValueSize < n → Refused (faultAt tooLong valueLengthPlace) ≡ parseFromType s
           unfolding pick
           too-long h =
               let b = number-there s valueLengthPlace n length-is in
               rw (behind-type, has-number, le-leb valuePlace (length s) (b .0), ← (b .1), lt-leb n maxValueSize h)
 
-          pub value-next : n ≤ maxValueSize → parseValueIn s ≡ parseValued s
+          pub value-next : n ≤ maxValueSize → parseValueIn s ≡ parseFromType s
           unfolding pick
           value-next h =
               let b = number-there s valueLengthPlace n length-is in

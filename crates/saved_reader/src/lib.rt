@@ -22,8 +22,8 @@ ghost use lib.ListN.{length};
 ghost use Rattle.value.specs.Value.{maxValueSize};
 ghost use Rattle.message.specs.Layout.{maxNameLength};
 ghost use Rattle.table.specs.Table.{maxEntries};
-ghost use Rattle.saved.specs.Reading.{parseOpening, nameLengthIn, typeIn, valueLengthIn, allZero, parseFilling, parseName, parseNamed};
-ghost use Rattle.saved.specs.Reading.{parseValueIn, parseValued, parseRecord, parseCount};
+ghost use Rattle.saved.specs.Reading.{parseOpening, nameLengthIn, typeIn, valueLengthIn, allZero, parseFilling, parseNameIn, parseUpToType};
+ghost use Rattle.saved.specs.Reading.{parseValueIn, parseFromType, parseRecord, parseCount};
 
 // How a record opens: its kind, and a byte that is at most so much.
 fn read_opening(s: &[u8], kind: u8, most: usize) -> Parsed
@@ -81,7 +81,7 @@ fn read_filling(s: &[u8], from: usize, to: usize) -> Parsed
 // A name of so many bytes, and its filling.
 fn read_name(s: &[u8], name_length: usize) -> Parsed
     requires { ⌜ («name_length» ≡ nameLengthIn (now s)) × («name_length» ≤ maxNameLength) ⌝ }
-    ensures { λ r. ⌜ r ≡ parseName (now (s .entry)) ⌝ }
+    ensures { λ r. ⌜ r ≡ parseNameIn (now (s .entry)) ⌝ }
 {
     let end = NAME_PLACE + name_length;
     if s.len() < end {
@@ -94,8 +94,8 @@ fn read_name(s: &[u8], name_length: usize) -> Parsed
 }
 
 // Kind, name length, name and filling.
-fn read_named(s: &[u8]) -> Parsed
-    ensures { λ r. ⌜ r ≡ parseNamed (now (s .entry)) ⌝ }
+fn read_up_to_type(s: &[u8]) -> Parsed
+    ensures { λ r. ⌜ r ≡ parseUpToType (now (s .entry)) ⌝ }
 {
     let opening = read_opening(s, saved::ENTRY_KIND, table::NAME_SIZE);
     let Parsed::Taken(_n) = opening else {
@@ -122,8 +122,8 @@ fn read_value(s: &[u8], type_code: u8, value_length: usize) -> Parsed
 }
 
 // Type, number, value length, value and filling.
-fn read_valued(s: &[u8]) -> Parsed
-    ensures { λ r. ⌜ r ≡ parseValued (now (s .entry)) ⌝ }
+fn read_from_type(s: &[u8]) -> Parsed
+    ensures { λ r. ⌜ r ≡ parseFromType (now (s .entry)) ⌝ }
 {
     let Octet::There(type_code) = field::read_u8(s, TYPE_PLACE) else {
         return Parsed::Refused(field::fault_at(INCOMPLETE, TYPE_PLACE));
@@ -148,11 +148,11 @@ fn read_valued(s: &[u8]) -> Parsed
 pub fn read_record(s: &[u8]) -> Parsed
     ensures { λ r. ⌜ r ≡ parseRecord (now (s .entry)) ⌝ }
 {
-    let named = read_named(s);
+    let named = read_up_to_type(s);
     let Parsed::Taken(_n) = named else {
         return named;
     };
-    read_valued(s)
+    read_from_type(s)
 }
 
 // The first record.

@@ -117,7 +117,7 @@ fn held_before(heads: &[u16], bytes: &[u8], i: usize, owner: u8) -> bool
     field::same_bytes(table::name_of(heads, bytes, other), name)
 }
 
-// The owner of a fingerprint once entry i has it too: 0 where none had it, i + 1 where entry i alone has it, else SEVERAL.
+// The owner of a fingerprint once entry i has it too: i + 1 where none had it (0), else SEVERAL.
 pub fn next_owner(owner: u8, i: usize) -> u8
     requires { ⌜ i < several ⌝ }
     ensures { λ r. ⌜ r ≡ pick (eqb owner 0) (i + 1) several ⌝ }

@@ -5,14 +5,14 @@ use native.Mathlib.Omega.{arith}
 use borrow.Author.Needs.{needs}
 use Rattle.field.specs.Octets.{bytesEqual}
 use Rattle.soundness.proofs.FingerprintLaws.{held-by-none, held-by-one}
-use Rattle.load.specs.Records.{entryOf}
+use Rattle.load.specs.Records.{savedEntry}
 use Rattle.load.proofs.held_before.Statement.{statement}
 use Rattle.load.proofs.held_before.Tie as tie
 
 returns : tie.Need-returns
 returns c =
     let s = c .before .before in
-    sym (held-by-none (entryOf (s .args .s .now)) (s .args .i) (s .args .owner) (s .pre .1) (c .if1 .taken))
+    sym (held-by-none (savedEntry (s .args .s .now)) (s .args .i) (s .args .owner) (s .pre .1) (c .if1 .taken))
 
 sub-other : tie.Need-sub-other
 sub-other c = search needs
@@ -40,7 +40,7 @@ returns-3 c =
     let s = c .before .before .before .before .before .before in
     c .same-bytes .ensures
     ∙ ap₂ bytesEqual (c .before .before .name-in .ensures) (c .before .name-in2 .ensures)
-    ∙ held-by-one (entryOf (s .args .s .now)) (s .args .i) (s .args .owner) (s .args .owner - 1) (s .pre .1) (omega arith) (omega arith) (omega arith)
+    ∙ held-by-one (savedEntry (s .args .s .now)) (s .args .i) (s .args .owner) (s .args .owner - 1) (s .pre .1) (omega arith) (omega arith) (omega arith)
 
 pub held-before-spec : {M : Type 1} → statement M
 held-before-spec =

@@ -8,12 +8,12 @@ use borrow.Author.Count.{below-more}
 use borrow.Author.Needs.{needs}
 use Rattle.field.specs.Octets.{bytesEqual}
 use Rattle.table.proofs.SearchLaws.{absent-below, held-below}
-use Rattle.load.specs.Records.{entryOf}
+use Rattle.load.specs.Records.{savedEntry}
 use Rattle.load.proofs.name_held.Statement.{statement}
 use Rattle.load.proofs.name_held.Tie as tie
 
 abbrev Inv-loop : tie.InvT-loop
-Inv-loop s i name j₀ j = (j ≤ i) × ((k : ℕ) → k < j → bytesEqual (entryOf s k .name) (entryOf s i .name) ≡ false)
+Inv-loop s i name j₀ j = (j ≤ i) × ((k : ℕ) → k < j → bytesEqual (savedEntry s k .name) (savedEntry s i .name) ≡ false)
 
 abbrev μ-loop : tie.MeasureT-loop
 μ-loop s i name j₀ j = i - j
@@ -21,7 +21,7 @@ abbrev μ-loop : tie.MeasureT-loop
 -- what was compared: the names of two records
 compared : (c : tie.After-same-bytes Inv-loop μ-loop)
     → let a = c .before .before .before .before .before .before .args in
-    c .same-bytes .result ≡ bytesEqual (entryOf (a .s .now) (c .before .before .before .loop .j) .name) (entryOf (a .s .now) (a .i) .name)
+    c .same-bytes .result ≡ bytesEqual (savedEntry (a .s .now) (c .before .before .before .loop .j) .name) (savedEntry (a .s .now) (a .i) .name)
 compared c = c .same-bytes .ensures ∙ ap₂ bytesEqual (c .before .name-in2 .ensures) (c .before .before .before .before .name-in .ensures)
 
 name-in-requires : tie.Need-name-in-requires Inv-loop μ-loop
@@ -39,7 +39,7 @@ same-bytes-requires c κs = search needs
 returns : tie.Need-returns Inv-loop μ-loop
 returns c =
     let a = c .before .before .before .before .before .before .before .args in
-    sym (held-below (entryOf (a .s .now) (a .i) .name) (entryOf (a .s .now)) (a .i) (c .before .before .before .before .loop .j) (omega arith)
+    sym (held-below (savedEntry (a .s .now) (a .i) .name) (savedEntry (a .s .now)) (a .i) (c .before .before .before .before .loop .j) (omega arith)
     (sym (compared (c .before)) ∙ c .if1 .taken))
 
 add-j : tie.Need-add-j Inv-loop μ-loop
@@ -55,7 +55,7 @@ loop-again c =
 returns-2 : tie.Need-returns-2 Inv-loop μ-loop
 returns-2 c =
     let a = c .before .before .before .before .args in
-    sym (absent-below (entryOf (a .s .now) (a .i) .name) (entryOf (a .s .now)) (a .i) (λ k h. c .before .loop .inv .1 k (omega arith)))
+    sym (absent-below (savedEntry (a .s .now) (a .i) .name) (savedEntry (a .s .now)) (a .i) (λ k h. c .before .loop .inv .1 k (omega arith)))
 
 pub name-held-spec : {M : Type 1} → statement M
 name-held-spec =

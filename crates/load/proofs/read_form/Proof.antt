@@ -7,7 +7,7 @@ use borrow.Author.Needs.{needs}
 use Rattle.table.specs.Table.{maxEntries}
 use Rattle.saved.specs.Form.{countRecordSize}
 use Rattle.saved.specs.Reading.{countIn}
-use Rattle.load.specs.Records.{told}
+use Rattle.load.specs.Records.{outcome}
 use Rattle.load.proofs.RecordsLaws.{count-taken, form-stop, form-counted}
 use Rattle.load.proofs.read_form.Statement.{statement}
 use Rattle.load.proofs.read_form.Tie as tie
@@ -47,7 +47,7 @@ returns-2 : tie.Need-returns-2
 returns-2 c =
     let o = c .before .before .before .before .before .before in
     let s = o .before .before .before .before .before .args .s .now in
-    c .before .before .read-records .ensures ∙ ap told (sym (form-counted maxEntries s _ (sym (o .before .before .read-count .ensures) ∙ o .first .given .1)))
+    c .before .before .read-records .ensures ∙ ap outcome (sym (form-counted maxEntries s _ (sym (o .before .before .read-count .ensures) ∙ o .first .given .1)))
 
 pub read-form-spec : {M : Type 1} → statement M
 read-form-spec =

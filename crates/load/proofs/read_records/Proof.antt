@@ -11,7 +11,7 @@ use Rattle.message.specs.Layout.{Entry}
 use Rattle.soundness.specs.Fingerprint.{fingerprintOf}
 use Rattle.soundness.proofs.FingerprintLaws.{fingerprint-small, Owned, covers, owned-more}
 use Rattle.saved.specs.Form.{savedSize}
-use Rattle.load.specs.Records.{entryOf, Records}
+use Rattle.load.specs.Records.{savedEntry, Records}
 use Rattle.load.proofs.RecordsLaws.{name-small, Left, left-all, Turn, turn-place, turn-stop, turn-size, turn-here, turn-records, turn-end, turn-held, turn-next, end-left, end-taken}
 use Rattle.load.proofs.read_records.Statement.{statement}
 use Rattle.load.proofs.read_records.Tie as tie
@@ -19,7 +19,7 @@ use Rattle.load.proofs.read_records.Tie as tie
 abbrev Inv-loop : tie.InvT-loop
 Inv-loop s count owners₀ at₀ i₀ owners at i =
     (i ≤ count) × (at ≡ savedSize i) × (at ≤ length s) × Records i s × Left s count at i
-    × (length owners ≡ length owners₀) × ((j : ℕ) → j < i → Owned owners (entryOf s) j)
+    × (length owners ≡ length owners₀) × ((j : ℕ) → j < i → Owned owners (savedEntry s) j)
 
 abbrev μ-loop : tie.MeasureT-loop
 μ-loop s count owners₀ at₀ i₀ owners at i = count - i
@@ -29,7 +29,7 @@ abbrev S : tie.After-read-record Inv-loop μ-loop → List ℕ
 S r = r .before .before .before .before .before .before .args .s .now
 
 abbrev E : tie.After-read-record Inv-loop μ-loop → ℕ → Entry
-E r = entryOf (S r)
+E r = savedEntry (S r)
 
 abbrev I : tie.After-read-record Inv-loop μ-loop → ℕ
 I r = r .before .before .before .loop .i

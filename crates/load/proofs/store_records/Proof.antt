@@ -7,7 +7,7 @@ use Rattle.field.proofs.OctetsLaws.{rest-all}
 use Rattle.table.specs.Table.{tableMemory, tabulate}
 use Rattle.saved.specs.Form.{savedSize}
 use Rattle.saved.specs.Calls.{storeAll}
-use Rattle.load.specs.Records.{entryOf}
+use Rattle.load.specs.Records.{savedEntry}
 use Rattle.load.proofs.RecordsLaws.{record-there, rest-entry}
 use Rattle.load.proofs.StoreLaws.{store-none, store-more, length-heads, length-bytes}
 use Rattle.load.proofs.store_records.Statement.{statement}
@@ -16,7 +16,7 @@ use Rattle.load.proofs.store_records.Tie as tie
 abbrev Inv-loop : tie.InvT-loop
 Inv-loop heads₀ bytes₀ s count i₀ heads bytes i =
     (i ≤ count) × (length heads ≡ length heads₀) × (length bytes ≡ length bytes₀)
-    × (tableMemory heads bytes i ≡ storeAll (tableMemory heads₀ bytes₀ 0) (tabulate i (entryOf s)))
+    × (tableMemory heads bytes i ≡ storeAll (tableMemory heads₀ bytes₀ 0) (tabulate i (savedEntry s)))
 
 abbrev μ-loop : tie.MeasureT-loop
 μ-loop heads₀ bytes₀ s count i₀ heads bytes i = count - i
@@ -30,7 +30,7 @@ there c =
 loop-holds : tie.Need-loop-holds Inv-loop μ-loop
 loop-holds c =
     let a = c .before .before .before .args in
-    (omega arith, refl, refl, store-none (tableMemory (a .heads .now) (a .bytes .now) 0) (entryOf (a .s .now)))
+    (omega arith, refl, refl, store-none (tableMemory (a .heads .now) (a .bytes .now) 0) (savedEntry (a .s .now)))
 
 size-of-requires : tie.Need-size-of-requires Inv-loop μ-loop
 size-of-requires c κs = omega arith
@@ -68,7 +68,7 @@ loop-again c =
       omega arith,
       ap length (d .store-record .ensures .0) ∙ length-heads (l .heads) (l .i) _ ∙ l .inv .1,
       ap length (d .store-record .ensures .1) ∙ length-bytes (l .bytes) (l .i) _ ∙ l .inv .2,
-      store-more (tableMemory (a .heads .now) (a .bytes .now) 0) (entryOf (a .s .now)) (l .heads) (l .bytes) (d .store-record .last .0) (d .store-record .last .1 .0) (l .i) _
+      store-more (tableMemory (a .heads .now) (a .bytes .now) 0) (savedEntry (a .s .now)) (l .heads) (l .bytes) (d .store-record .last .0) (d .store-record .last .1 .0) (l .i) _
           (l .inv .3) e (d .store-record .ensures .0) (d .store-record .ensures .1),
     )
 

@@ -1,4 +1,4 @@
--- `read_name` answers `parseName`: one law for each return.
+-- `read_name` answers `parseNameIn`: one law for each return.
 use mathlib.Core.Path.{_∙_}
 use borrow.Author.Tests.{not-true, not-false}
 use Rattle.saved_reader.proofs.RecordLaws.{name-missing, name-bad, name-good}

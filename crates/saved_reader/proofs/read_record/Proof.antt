@@ -4,8 +4,8 @@ use borrow.Author.Needs.{needs}
 use Rattle.saved_reader.proofs.read_record.Statement.{statement}
 use Rattle.saved_reader.proofs.read_record.Tie as tie
 
-read-named-requires : tie.Need-read-named-requires
-read-named-requires c κs = search needs
+read-up-to-type-requires : tie.Need-read-up-to-type-requires
+read-up-to-type-requires c κs = search needs
 
 enum-known-named : tie.Need-enum-known-named
 enum-known-named c = search needs
@@ -15,24 +15,24 @@ enum-told c = search needs
 
 returns : tie.Need-returns
 unfolding parseRecord
-returns c = rw (← (c .before .before .read-named .ensures), c .enum-told .given .1)
+returns c = rw (← (c .before .before .read-up-to-type .ensures), c .enum-told .given .1)
 
-read-valued-requires : tie.Need-read-valued-requires
-read-valued-requires c κs = search needs
+read-from-type-requires : tie.Need-read-from-type-requires
+read-from-type-requires c κs = search needs
 
 returns-2 : tie.Need-returns-2
 unfolding parseRecord
 returns-2 c =
     let t = c .before .before in
-    rw (← (t .before .before .read-named .ensures), t .named .given .1) (c .read-valued .ensures)
+    rw (← (t .before .before .read-up-to-type .ensures), t .named .given .1) (c .read-from-type .ensures)
 
 pub read-record-spec : {M : Type 1} → statement M
 read-record-spec =
     tie.close
     (tie.spec
-    read-named-requires
+    read-up-to-type-requires
     enum-known-named
     enum-told
     returns
-    read-valued-requires
+    read-from-type-requires
     returns-2)

@@ -1,4 +1,4 @@
--- `read_named` answers `parseNamed`: how the record opens, and the name behind it.
+-- `read_up_to_type` answers `parseUpToType`: how the record opens, and the name behind it.
 use mathlib.Core.Path.{_≡_, refl, sym, _∙_}
 use Prim.Native.Nat.{_≤_}
 use native.Mathlib.Omega.{arith}
@@ -6,10 +6,10 @@ use lib.ListN.{length, getD}
 use borrow.Author.Needs.{needs}
 use Rattle.message.specs.Layout.{maxNameLength}
 use Rattle.saved.specs.Form.{entryKind, openingSize}
-use Rattle.saved.specs.Reading.{parseNamed}
+use Rattle.saved.specs.Reading.{parseUpToType}
 use Rattle.saved.proofs.RecordLaws.{opening-facts}
-use Rattle.saved_reader.proofs.read_named.Statement.{statement}
-use Rattle.saved_reader.proofs.read_named.Tie as tie
+use Rattle.saved_reader.proofs.read_up_to_type.Statement.{statement}
+use Rattle.saved_reader.proofs.read_up_to_type.Tie as tie
 
 -- the name's length is there
 opened : (c : tie.After-opening) → let s = c .before .before .before .before .args .s .now in
@@ -26,7 +26,7 @@ enum-told : tie.Need-enum-told
 enum-told c = search needs
 
 returns : tie.Need-returns
-unfolding parseNamed
+unfolding parseUpToType
 returns c = rw (← (c .before .before .read-opening .ensures), c .enum-told .given .1)
 
 shared-slice-read-read-name : tie.Need-shared-slice-read-read-name
@@ -39,13 +39,13 @@ read-name-requires : tie.Need-read-name-requires
 read-name-requires c κs = (refl, opened (c .before .before) .1)
 
 returns-2 : tie.Need-returns-2
-unfolding parseNamed
+unfolding parseUpToType
 returns-2 c =
     let o = c .before .before .before in
     rw (← (o .before .before .read-opening .ensures), o .opening .given .1) (c .read-name .ensures)
 
-pub read-named-spec : {M : Type 1} → statement M
-read-named-spec =
+pub read-up-to-type-spec : {M : Type 1} → statement M
+read-up-to-type-spec =
     tie.close
     (tie.spec
     read-opening-requires

@@ -1,4 +1,4 @@
--- `read_valued` answers `parseValued`: one law for each return, over the fields that were read.
+-- `read_from_type` answers `parseFromType`: one law for each return, over the fields that were read.
 use mathlib.Core.Path.{_≡_, sym, _∙_}
 use Prim.Native.Nat.{_<_}
 use native.Mathlib.Omega.{arith}
@@ -11,8 +11,8 @@ use Rattle.value.specs.Value.{maxValueSize}
 use Rattle.saved.specs.Form.{typePlace, numberPlace, valueLengthPlace}
 use Rattle.saved_reader.proofs.RecordLaws.{no-type, other-type, no-number, no-length, too-long, value-next}
 use borrow.Author.Needs.{needs}
-use Rattle.saved_reader.proofs.read_valued.Statement.{statement}
-use Rattle.saved_reader.proofs.read_valued.Tie as tie
+use Rattle.saved_reader.proofs.read_from_type.Statement.{statement}
+use Rattle.saved_reader.proofs.read_from_type.Tie as tie
 
 to-start : tie.After-type-code → tie.Start
 to-start c = c .before .before .before .before
@@ -144,8 +144,8 @@ returns-6 c =
     c .read-value .ensures
     ∙ value-next _ _ _ (type-is (to-type e)) (e .before .known-type .ensures) (not-false _ (e .if1 .left)) _ (number-is m) _ (length-is n) (t .if2 .left)
 
-pub read-valued-spec : {M : Type 1} → statement M
-read-valued-spec =
+pub read-from-type-spec : {M : Type 1} → statement M
+read-from-type-spec =
     tie.close
     (tie.spec
     read-u8-requires
