@@ -24,32 +24,43 @@ pub struct Keeper {
     due: Option<Instant>,
 }
 
+#[derive(Default)]
 struct Waiting {
     state: Mutex<State>,
     changed: Condvar,
 }
 
+#[derive(Default)]
 struct State {
     /// The newest saved table, unless it is taken already.
-    newest: Option<Vec<u8>>,
+    newest: Option<Saved>,
     /// No newer one will come.
     is_last: bool,
+    /// How long it takes until one that is handed over is written, by the last ones.
+    took: Duration,
+}
+
+#[derive(Clone, Debug, PartialEq)]
+struct Saved {
+    bytes: Vec<u8>,
+    handed_over: Instant,
 }
 
 impl Keeper {
     /// A change is saved after the delay.
     pub fn start(file: TableFile, delay: Duration, notices: Notices) -> io::Result<Self> {
-        let state = Mutex::new(State { newest: None, is_last: false });
-        let waiting = Arc::new(Waiting { state, changed: Condvar::new() });
+        let waiting = Arc::new(Waiting::default());
         let file = Arc::new(file);
         let (written, taken) = (Arc::clone(&file), Arc::clone(&waiting));
         let thread = Some(spawn("keeper", move || taken.write_to(&written, &notices))?);
         Ok(Keeper { file, waiting, thread, delay, due: None })
     }
 
-    /// The table has changed, or has no file yet.
+    /// The table has changed, or has no file yet. Where writing takes long, the delay is the shorter for
+    /// it, so that the file has the change after about the same time.
     pub fn changed(&mut self) {
-        self.due.get_or_insert_with(|| Instant::now() + self.delay);
+        let delay = || self.delay.saturating_sub(self.waiting.lock().took);
+        self.due.get_or_insert_with(|| Instant::now() + delay());
     }
 
     /// The time until the table is to be saved, if it is.
@@ -60,9 +71,10 @@ impl Keeper {
     /// Hands the table over to be written. One that still waits for that is not written any more.
     pub fn save(&mut self, table: &ServerTable) {
         self.due = None;
-        let mut saved = vec![0; LONGEST_SAVED];
-        let length = table.save(&mut saved).expect("an owned table is sound").len();
-        saved.truncate(length);
+        let mut bytes = vec![0; LONGEST_SAVED];
+        let length = table.save(&mut bytes).expect("an owned table is sound").len();
+        bytes.truncate(length);
+        let saved = Saved { bytes, handed_over: Instant::now() };
         self.waiting.change(|state| state.newest = Some(saved));
     }
 
@@ -100,11 +112,15 @@ impl Waiting {
     fn write_to(&self, file: &TableFile, notices: &Notices) -> Result<(), Fault> {
         let mut failed_before = false;
         while let Some((saved, is_last)) = self.next() {
-            let (written, file) = (file.replace(&saved), file.path().to_path_buf());
+            let (written, file) = (file.replace(&saved.bytes), file.path().to_path_buf());
             let failed = written.is_err();
             match written {
-                Ok(()) if failed_before => notices.add(Notice::SavedAgain { file }),
-                Ok(()) => {}
+                Ok(()) => {
+                    self.note(saved.handed_over.elapsed());
+                    if failed_before {
+                        notices.add(Notice::SavedAgain { file });
+                    }
+                }
                 Err(error) if is_last => return Err(Fault::NotSaved { file, error }),
                 Err(error) => {
                     notices.add(Notice::NotSaved { file, error });
@@ -117,7 +133,7 @@ impl Waiting {
     }
 
     /// The newest table once there is one, and whether it is the last; none where no more will come.
-    fn next(&self) -> Option<(Vec<u8>, bool)> {
+    fn next(&self) -> Option<(Saved, bool)> {
         let idle = |state: &mut State| state.newest.is_none() && !state.is_last;
         let waited = self.changed.wait_while(self.lock(), idle);
         let mut state = waited.unwrap_or_else(PoisonError::into_inner);
@@ -126,11 +142,17 @@ impl Waiting {
     }
 
     /// Lets a table wait again after a pause, which the end cuts short.
-    fn put_back(&self, saved: Vec<u8>) {
+    fn put_back(&self, saved: Saved) {
         let goes_on = |state: &mut State| !state.is_last;
         let waited = self.changed.wait_timeout_while(self.lock(), WRITE_PAUSE, goes_on);
         let (mut state, _) = waited.unwrap_or_else(PoisonError::into_inner);
         state.newest.get_or_insert(saved);
+    }
+
+    /// Notes how long the last one took. A long time is forgotten by halves.
+    fn note(&self, took: Duration) {
+        let mut state = self.lock();
+        state.took = took.max(state.took / 2);
     }
 
     fn change(&self, change: impl FnOnce(&mut State)) {
@@ -150,19 +172,30 @@ mod tests {
 
     #[test]
     fn newest_is_written_alone() {
-        let state = Mutex::new(State { newest: None, is_last: false });
-        let waiting = Waiting { state, changed: Condvar::new() };
-        let hand_over = |byte| waiting.change(|state| state.newest = Some(vec![byte]));
-        hand_over(1);
-        hand_over(2);
-        assert_eq!(waiting.next(), Some((vec![2], false)));
-        hand_over(3);
+        let waiting = Waiting::default();
+        let saved = |byte| Saved { bytes: vec![byte], handed_over: Instant::now() };
+        let [first, second, third] = [1, 2, 3].map(saved);
+        let hand_over = |saved: &Saved| waiting.change(|state| state.newest = Some(saved.clone()));
+        hand_over(&first);
+        hand_over(&second);
+        assert_eq!(waiting.next(), Some((second.clone(), false)));
+        hand_over(&third);
         waiting.change(|state| state.is_last = true);
         // One that could not be written gives way to a newer one, and comes again where there is none.
-        waiting.put_back(vec![2]);
-        assert_eq!(waiting.next(), Some((vec![3], true)));
-        waiting.put_back(vec![3]);
-        assert_eq!(waiting.next(), Some((vec![3], true)));
+        waiting.put_back(second);
+        assert_eq!(waiting.next(), Some((third.clone(), true)));
+        waiting.put_back(third.clone());
+        assert_eq!(waiting.next(), Some((third, true)));
         assert_eq!(waiting.next(), None);
+    }
+
+    #[test]
+    fn long_time_is_forgotten_by_halves() {
+        let waiting = Waiting::default();
+        let took = |milliseconds| {
+            waiting.note(Duration::from_millis(milliseconds));
+            waiting.lock().took.as_millis()
+        };
+        assert_eq!([5, 400, 20, 150, 10, 60].map(took), [5, 400, 200, 150, 75, 60]);
     }
 }
