@@ -1,7 +1,7 @@
 /* Uses every call of nt2.h and checks its answers: the listing of the build description, the same
  * messages as a delivery and as a line record, why messages are done, ignored or refused, a client's
- * copy that follows a server, single messages, and the places of faults. Prints the listing, and ends
- * with 1 at the first answer that is not as expected.
+ * copy that follows a server, saved tables, single messages, and the places of faults. Prints the
+ * listing, and ends with 1 at the first answer that is not as expected.
  *
  * All that is lent is a heap block of its own, exactly as long as it is lent, so that valgrind sees
  * each access beyond it.
@@ -13,6 +13,7 @@
 #include <string.h>
 
 _Static_assert(NT2_TABLE_BYTES == NT2_ENTRIES * NT2_ENTRY_ROOM, "a table");
+_Static_assert(NT2_LONGEST_SAVED == 20930, "the longest saved table");
 
 _Static_assert(sizeof(nt2_head) == 8, "a head");
 _Static_assert(offsetof(nt2_head, value_length) == 2, "a head's value length");
@@ -203,6 +204,20 @@ static nt2_reason reason_of(table t, size_t connection, const void *message, siz
     nt2_reason r = nt2_why(SERVER(t), connection, LENT(input));
     free_input(input, message);
     return r;
+}
+
+static nt2_answer save(table t, block *out, size_t room) {
+    new_output(out, room);
+    nt2_answer a = nt2_save(COPY(t), LENT(*out));
+    check_rest(out, a.sent);
+    return a;
+}
+
+static nt2_answer load(table t, const void *bytes, size_t length) {
+    block saved = new_input(bytes, length);
+    nt2_answer a = nt2_load(SERVER(t), LENT(saved));
+    free_input(saved, bytes);
+    return a;
 }
 
 static bool replays(table t, const void *bytes, size_t length, uint8_t number, size_t records) {
@@ -421,13 +436,18 @@ static table same_table(table t) {
     return same;
 }
 
+/* All of their memory is the same. */
+static void check_same(table left, table right) {
+    CHECK(memcmp(left.heads, right.heads, NT2_ENTRIES * sizeof(nt2_head)) == 0);
+    CHECK(memcmp(left.bytes, right.bytes, NT2_TABLE_BYTES) == 0 && *left.count == *right.count);
+    CHECK(memcmp(left.marks, right.marks, NT2_CONNECTIONS) == 0);
+}
+
 /* Asking changes nothing, and the call itself, with room for any answer, has the same number. */
 static void reason_is(table t, const reasoned *m, block *out) {
     table same = same_table(t);
     CHECK(same_reason(reason_of(t, m->connection, m->message, m->length), m->reason));
-    CHECK(memcmp(t.heads, same.heads, NT2_ENTRIES * sizeof(nt2_head)) == 0);
-    CHECK(memcmp(t.bytes, same.bytes, NT2_TABLE_BYTES) == 0 && *t.count == *same.count);
-    CHECK(memcmp(t.marks, same.marks, NT2_CONNECTIONS) == 0);
+    check_same(t, same);
     nt2_answer a = receive(same, m->connection, m->message, m->length, out,
                            NT2_LONGEST_HELLO_ANSWER);
     CHECK(a.number == m->reason.number);
@@ -620,6 +640,146 @@ static void server_and_copy(void) {
     free_table(server);
 }
 
+/* Puts an entry's record into a saved table that is all zeros. */
+static void put_saved(uint8_t *record, const char *name, uint8_t type_code, uint16_t number,
+                      const void *value, uint16_t length) {
+    record[0] = NT2_SAVED_ENTRY_RECORD;
+    record[1] = (uint8_t)strlen(name);
+    memcpy(record + 2, name, strlen(name));
+    record[66] = type_code;
+    record[67] = (uint8_t)(number >> 8);
+    record[68] = (uint8_t)number;
+    record[69] = (uint8_t)(length >> 8);
+    record[70] = (uint8_t)length;
+    memcpy(record + 71, value, length);
+}
+
+/* Where the second of two entries starts in a saved table, and the table's length. */
+enum { SECOND = NT2_SAVED_FIRST + NT2_SAVED_ENTRY, TWO_SAVED = SECOND + NT2_SAVED_ENTRY };
+
+/* The saved form of the Boolean "tare", written once, and of the String "lot". */
+static const uint8_t *two_saved(void) {
+    static uint8_t saved[TWO_SAVED] = {NT2_SAVED_COUNT_RECORD, 2};
+    put_saved(saved + NT2_SAVED_FIRST, "tare", NT2_BOOLEAN, 2, "\x01", 1);
+    put_saved(saved + SECOND, "lot", NT2_STRING, 1, "\x00\x03" "A-7", 5);
+    return saved;
+}
+
+static void a_table_is_saved(table server, table copy, block *out) {
+    CHECK(nt2_fresh(SERVER(server)).number == NT2_DONE);
+    CHECK(nt2_copy_fresh(COPY(copy)).number == NT2_DONE);
+    CHECK(answers(save(server, out, 1), NT2_ROOM, 0, 0, 0));
+    CHECK(answers(save(server, out, 2), NT2_DONE, 0, 2, 0));
+    CHECK(memcmp(out->bytes, "\x01\x00", 2) == 0);
+    nt2_answer a = create(server, "tare", 4, NT2_BOOLEAN, "\x00", 1, out, 13);
+    feed(copy, out->bytes, a.sent);
+    a = create(server, "lot", 3, NT2_STRING, "\x00\x03" "A-7", 5, out, 16);
+    feed(copy, out->bytes, a.sent);
+    a = write_value(server, 0, "\x01", 1, out, 6);
+    feed(copy, out->bytes, a.sent);
+    table same = same_table(server);
+    CHECK(answers(save(server, out, TWO_SAVED - 1), NT2_ROOM, 0, 0, 0));
+    for (size_t room = TWO_SAVED; room <= TWO_SAVED + 1; room++) {
+        CHECK(answers(save(server, out, room), NT2_DONE, 0, TWO_SAVED, 0));
+        CHECK(memcmp(out->bytes, two_saved(), TWO_SAVED) == 0);
+    }
+    check_same(server, same);
+    free_table(same);
+    /* A copy has no marks, and is saved as the table is. */
+    CHECK(answers(save(copy, out, NT2_LONGEST_SAVED), NT2_DONE, 0, TWO_SAVED, 0));
+    CHECK(memcmp(out->bytes, two_saved(), TWO_SAVED) == 0);
+}
+
+/* A byte of a saved table changed to another one, and how that is refused. */
+typedef struct {
+    size_t at;
+    uint8_t byte, number;
+    size_t place;
+} bad_byte;
+
+static const bad_byte bad_bytes[] = {
+    {0, 3, NT2_KIND, 0},
+    {1, NT2_ENTRIES + 1, NT2_TOO_LONG, 1},
+    {1, 1, NT2_TOO_LONG, SECOND},
+    {1, 3, NT2_INCOMPLETE, 0},
+    {SECOND, 1, NT2_KIND, 0},
+    {SECOND + 1, NT2_NAME_ROOM + 1, NT2_TOO_LONG, SECOND + 1},
+    {SECOND + 4, 0xFF, NT2_NOT_TEXT, SECOND + 2},
+    {SECOND + 65, 1, NT2_FILLING, 0},
+    {SECOND + 66, 3, NT2_TYPE, SECOND + 66},
+    {SECOND + 69, 2, NT2_TOO_LONG, SECOND + 69},
+    {SECOND + 70, 6, NT2_TOO_LONG, SECOND + 76},
+    {SECOND + 70, 4, NT2_INCOMPLETE, 0},
+    {SECOND + 74, 0x80, NT2_NOT_TEXT, SECOND + 73},
+    {SECOND + 326, 1, NT2_FILLING, 0},
+    {NT2_SAVED_FIRST + 71, 2, NT2_NOT_BOOLEAN, NT2_SAVED_FIRST + 71},
+};
+
+/* Nothing is changed by a load that is refused. */
+static void bad_tables_are_not_loaded(table t) {
+    uint8_t bad[TWO_SAVED + 1] = {0};
+    table same = same_table(t);
+    for (size_t length = 0; length < TWO_SAVED; length++)
+        CHECK(refused_at(load(t, two_saved(), length), NT2_INCOMPLETE, 0));
+    for (size_t i = 0; i < sizeof bad_bytes / sizeof *bad_bytes; i++) {
+        memcpy(bad, two_saved(), TWO_SAVED);
+        bad[bad_bytes[i].at] = bad_bytes[i].byte;
+        CHECK(refused_at(load(t, bad, TWO_SAVED), bad_bytes[i].number, bad_bytes[i].place));
+    }
+    memcpy(bad, two_saved(), TWO_SAVED);
+    CHECK(refused_at(load(t, bad, TWO_SAVED + 1), NT2_TOO_LONG, TWO_SAVED));
+    memcpy(bad + SECOND, bad + NT2_SAVED_FIRST, NT2_SAVED_ENTRY);
+    CHECK(refused_at(load(t, bad, TWO_SAVED), NT2_NAME_HELD, 0));
+    check_same(t, same);
+    t.marks[15] = NT2_OPEN;
+    CHECK(refused_at(load(t, two_saved(), TWO_SAVED), NT2_STATE, 0));
+    t.marks[15] = NT2_GREETED + 1;
+    CHECK(refused_at(load(t, two_saved(), TWO_SAVED), NT2_UNSOUND, 0));
+    t.marks[15] = NT2_CLOSED;
+    check_same(t, same);
+    free_table(same);
+}
+
+/* Over an entry with a longer name: what stands behind names and values, and in the other entries,
+ * stays. */
+static void a_table_is_loaded(table server, table t, block *out) {
+    CHECK(nt2_fresh(SERVER(t)).number == NT2_DONE);
+    CHECK(create(t, "gross weight", 12, NT2_BOOLEAN, "\x00", 1, out, 21).number == NT2_DONE);
+    bad_tables_are_not_loaded(t);
+    table expected = same_table(t);
+    nt2_head tare = {4, 1, NT2_BOOLEAN, 2}, lot = {3, 5, NT2_STRING, 1};
+    expected.heads[0] = tare;
+    expected.heads[1] = lot;
+    memcpy(expected.bytes, "tare", 4);
+    expected.bytes[NT2_NAME_ROOM] = 1;
+    memcpy(expected.bytes + NT2_ENTRY_ROOM, "lot", 3);
+    memcpy(expected.bytes + NT2_ENTRY_ROOM + NT2_NAME_ROOM, "\x00\x03" "A-7", 5);
+    *expected.count = 2;
+    CHECK(answers(load(t, two_saved(), TWO_SAVED), NT2_DONE, TWO_SAVED, 0, 0));
+    check_same(t, expected);
+    same_entries(server, t);
+    free_table(expected);
+    CHECK(answers(save(t, out, TWO_SAVED), NT2_DONE, 0, TWO_SAVED, 0));
+    CHECK(memcmp(out->bytes, two_saved(), TWO_SAVED) == 0);
+    CHECK(answers(load(t, "\x01\x00", 2), NT2_DONE, 2, 0, 0));
+    CHECK(*t.count == 0);
+}
+
+static void saved_tables(void) {
+    table server = filled_table(), copy = filled_table(), loaded = filled_table();
+    block out = {NULL, 0};
+    a_table_is_saved(server, copy, &out);
+    a_table_is_loaded(server, loaded, &out);
+    server.heads[1].type_code = 3;
+    CHECK(answers(save(server, &out, 0), NT2_UNSOUND, 0, 0, 0));
+    CHECK(answers(load(server, "\x01\x00", 2), NT2_UNSOUND, 0, 0, 0));
+    CHECK(*server.count == 2);
+    free(out.bytes);
+    free_table(loaded);
+    free_table(copy);
+    free_table(server);
+}
+
 static void there_and_back(void) {
     static const uint8_t expected[] = {0x10, 0x00, 0x04, 't',  'a',  'r', 'e',
                                        0x00, 0x00, 0x07, 0xFF, 0xFF, 0x01};
@@ -752,6 +912,7 @@ int main(void) {
     line_records();
     refused_line_records();
     server_and_copy();
+    saved_tables();
     there_and_back();
     places_of_faults();
     puts("example: all calls answered as expected");

@@ -5,21 +5,22 @@
 
 #![forbid(unsafe_code)]
 
-use bench::measure::{Effort, calibrate, fastest, time};
+use bench::measure::{Copying, Effort, calibrate, fastest, time};
 use bench::subject::{
-    CALLS, DELIVER_UPDATES, RECEIVE_UPDATES, REPLAY_ENTRIES, REPLAY_UPDATES, SIZES, Subject,
-    TYPICAL, VALUES, WORST_CASE, has_table, sizes,
+    CALLS, DELIVER_UPDATES, RECEIVE_UPDATES, REPLAY_ENTRIES, REPLAY_UPDATES, SAVE,
+    SAVE_WITHOUT_ROOM, SIZES, Subject, TYPICAL, VALUES, WORST_CASE, has_table, sizes,
 };
 use nt2_tests::arguments::Arguments;
 use nt2_tests::ending::status;
 use nt2_tests::implementation::{Library, Reference};
-use std::hint::black_box;
 use std::process::ExitCode;
 
-/// The goals: library by reference, 64 entries by 16, and 64 updates as one delivery by single calls.
+/// The goals: library by reference, 64 entries by 16, 64 updates as one delivery by single calls, and
+/// saving, beyond judging the table, by copying the form's bytes.
 const MOST_RATIO: f64 = 1.0;
 const MOST_GROWTH: f64 = 4.0;
 const MOST_DELIVERY: f64 = 0.25;
+const MOST_SAVING: f64 = 3.0;
 
 /// Nanoseconds of one call: library and reference.
 #[derive(Clone, Copy, Default)]
@@ -41,15 +42,9 @@ fn measure(subject: &mut Subject, call: usize, effort: Effort) -> Times {
 
 /// Nanoseconds of copying the hello's answer once.
 fn measure_copying(bytes: &[u8], effort: Effort) -> f64 {
-    let mut out = bytes.to_vec();
-    let copy = |out: &mut Vec<u8>, n: usize| {
-        for _ in 0..n {
-            black_box(&mut *out).copy_from_slice(black_box(bytes));
-        }
-    };
-    let once = time(1000, |n| copy(&mut out, n)).max(0.1);
-    let iterations = (effort.round.as_nanos() as f64 / once) as usize + 1;
-    let rounds = (0..effort.rounds).map(|_| time(iterations, |n| copy(&mut out, n)));
+    let mut copying = Copying::new(bytes);
+    let iterations = copying.calibrate(effort);
+    let rounds = (0..effort.rounds).map(|_| time(iterations, |n| copying.repeat(n)));
     fastest(&rounds.collect::<Vec<f64>>())
 }
 
@@ -107,12 +102,51 @@ struct LineRecords {
     entries: Times,
 }
 
+/// The library's saving beside judging the table alone and copying the form's bytes, in turn.
+struct Saving {
+    values: usize,
+    entries: usize,
+    bytes: usize,
+    saved: f64,
+    judged: f64,
+    copied: f64,
+}
+
+impl Saving {
+    fn measure(values: usize, entries: usize, effort: Effort) -> Self {
+        let subject = &mut Subject::new(values, entries);
+        let mut copying = Copying::new(subject.saved());
+        let calls = [SAVE, SAVE_WITHOUT_ROOM].map(place_of);
+        let iterations = calls.map(|call| calibrate::<Library>(subject, call, effort));
+        let copies = copying.calibrate(effort);
+        let [mut saved, mut judged, mut copied] = [const { Vec::new() }; 3];
+        for _ in 0..effort.rounds {
+            saved.push(time(iterations[0], |n| subject.repeat::<Library>(calls[0], n)));
+            judged.push(time(iterations[1], |n| subject.repeat::<Library>(calls[1], n)));
+            copied.push(time(copies, |n| copying.repeat(n)));
+        }
+        let [saved, judged, copied] = [saved, judged, copied].map(|times| fastest(&times));
+        Saving { values, entries, bytes: subject.saved().len(), saved, judged, copied }
+    }
+
+    /// What is beyond judging the table, by copying.
+    fn by_copying(&self) -> f64 {
+        (self.saved - self.judged) / self.copied
+    }
+}
+
+/// The place of a call among all.
+fn place_of(name: &str) -> usize {
+    CALLS.iter().position(|call| *call == name).expect("a row of its own")
+}
+
 /// What was measured beside the rows.
 #[derive(Default)]
 struct Measured {
     hellos: Vec<Hello>,
     deliveries: Vec<Delivery>,
     line_records: Vec<LineRecords>,
+    savings: Vec<Saving>,
     beyond: Vec<String>,
 }
 
@@ -147,10 +181,7 @@ impl Measured {
     /// Keeps what the rows of a set of values say of a delivery and of line records on the largest
     /// table.
     fn keep_largest(&mut self, values: usize, rows: &[[Times; SIZES.len()]]) {
-        let largest = |name| {
-            let call = CALLS.iter().position(|call| *call == name).expect("a row of its own");
-            rows[call][SIZES.len() - 1]
-        };
+        let largest = |name| rows[place_of(name)][SIZES.len() - 1];
         let (updates, entries) = (largest(REPLAY_UPDATES), largest(REPLAY_ENTRIES));
         self.line_records.push(LineRecords { values, updates, entries });
         let (delivered, single) = (largest(DELIVER_UPDATES), largest(RECEIVE_UPDATES));
@@ -161,6 +192,43 @@ impl Measured {
             self.beyond.push(format!("{}: {miss}", VALUES[values]));
         }
         self.deliveries.push(delivery);
+    }
+
+    /// Measures saving beside copying.
+    fn save(&mut self, values: usize, effort: Effort) {
+        for entries in SIZES {
+            let saving = Saving::measure(values, entries, effort);
+            let by_copying = saving.by_copying();
+            if is_beyond(by_copying, MOST_SAVING) {
+                let miss = format!("{SAVE}, {entries}, by copying: {by_copying:.2}");
+                self.beyond.push(format!("{}: {miss}", VALUES[values]));
+            }
+            self.savings.push(saving);
+        }
+    }
+
+    fn print_savings(&self) {
+        println!(
+            "\nsaving, judging the table alone, copying the form's bytes; saving less judging by copying\n"
+        );
+        println!(
+            "{:<46} {:>7} {:>6} {:>10} {:>10} {:>9} {:>7}",
+            "values", "entries", "bytes", "saving", "judging", "copying", "ratio"
+        );
+        for saving in &self.savings {
+            let Saving { values, entries, bytes, saved, judged, copied } = saving;
+            println!(
+                "{:<46} {entries:>7} {bytes:>6} {saved:>10.1} {judged:>10.1} {copied:>9.1} {:>7.2}",
+                VALUES[*values],
+                saving.by_copying()
+            );
+        }
+        println!("\ngoal of saving, beyond judging at most {MOST_SAVING:.2} of copying:");
+        for of_values in self.savings.chunks(SIZES.len()) {
+            let said = of_values.iter().map(|saving| verdict(saving.by_copying(), MOST_SAVING));
+            let said: Vec<_> = said.collect();
+            println!("  {}: {}", VALUES[of_values[0].values], said.join(", "));
+        }
     }
 
     fn print_deliveries(&self) {
@@ -254,13 +322,15 @@ fn run() -> Result<(), String> {
         let rows = (0..CALLS.len()).map(|call| measured.row(values, call, effort));
         let rows: Vec<_> = rows.collect();
         measured.keep_largest(values, &rows);
+        measured.save(values, effort);
     }
     measured.print_hellos();
     measured.print_deliveries();
     measured.print_line_records();
+    measured.print_savings();
     let beyond = measured.beyond;
     println!(
-        "\nbeyond the goals, {MOST_RATIO:.2}, {MOST_GROWTH:.2} and {MOST_DELIVERY:.2}: {}",
+        "\nbeyond the goals, {MOST_RATIO:.2}, {MOST_GROWTH:.2}, {MOST_DELIVERY:.2} and {MOST_SAVING:.2}: {}",
         beyond.len()
     );
     beyond.iter().for_each(|miss| println!("  {miss}"));

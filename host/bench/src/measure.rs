@@ -3,6 +3,7 @@
 use crate::subject::Subject;
 use nt2_tests::arguments::Arguments;
 use nt2_tests::implementation::Implementation;
+use std::hint::black_box;
 use std::time::{Duration, Instant};
 
 /// How often a call is timed, and for how long.
@@ -45,5 +46,29 @@ pub fn calibrate<I: Implementation>(subject: &mut Subject, call: usize, effort: 
             return ((iterations as f64 * scale) as usize).max(1);
         }
         iterations *= 2;
+    }
+}
+
+/// Bytes that are copied to some others. The compiler cannot see what either holds.
+pub struct Copying {
+    from: Vec<u8>,
+    to: Vec<u8>,
+}
+
+impl Copying {
+    pub fn new(bytes: &[u8]) -> Self {
+        Copying { from: bytes.to_vec(), to: bytes.to_vec() }
+    }
+
+    pub fn repeat(&mut self, times: usize) {
+        for _ in 0..times {
+            black_box(&mut self.to[..]).copy_from_slice(black_box(&self.from));
+        }
+    }
+
+    /// So many times that a round takes its time.
+    pub fn calibrate(&mut self, effort: Effort) -> usize {
+        let once = time(1000, |n| self.repeat(n)).max(0.1);
+        (effort.round.as_nanos() as f64 / once) as usize + 1
     }
 }

@@ -6,6 +6,7 @@ use nt2_sys::{
     LONGEST_HELLO_ANSWER, LentTable, NAME_ROOM, Reason, TABLE_BYTES,
 };
 use nt2_tests::implementation::Implementation;
+use nt2_tests::saved::{form, record};
 use std::hint::black_box;
 
 pub const VALUES: [&str; 4] = [
@@ -27,8 +28,12 @@ pub const RECEIVE_UPDATES: &str = "receive 64 updates";
 pub const REPLAY_UPDATES: &str = "replay 60 KB, updates";
 pub const REPLAY_ENTRIES: &str = "replay 60 KB, entries";
 
+/// Saving, and judging the table alone: there is one byte too few for the form.
+pub const SAVE: &str = "save";
+pub const SAVE_WITHOUT_ROOM: &str = "save without room";
+
 /// The calls; those from `TABLE_CALLS` on have no table.
-pub const CALLS: [&str; 29] = [
+pub const CALLS: [&str; 32] = [
     "fresh",
     "open",
     "leave",
@@ -46,6 +51,9 @@ pub const CALLS: [&str; 29] = [
     "why old update",
     "why held entry",
     "why cut entry",
+    SAVE,
+    SAVE_WITHOUT_ROOM,
+    "load",
     "create",
     "write",
     "write equal",
@@ -59,7 +67,7 @@ pub const CALLS: [&str; 29] = [
     "decode assignment",
     "decode update",
 ];
-const TABLE_CALLS: usize = 25;
+const TABLE_CALLS: usize = 28;
 
 /// How many entries the tables have.
 pub const SIZES: [usize; 3] = [1, 16, 64];
@@ -98,6 +106,8 @@ pub struct Subject {
     updates: Vec<u8>,
     /// Line records that make a table of as many entries: of updates, and of entries.
     line_records: [LineRecord; 2],
+    /// The table's saved form.
+    saved: Vec<u8>,
     hello_sent: usize,
 }
 
@@ -151,6 +161,15 @@ fn updates(values: usize, entries: usize) -> Vec<u8> {
     (0..DELIVERY_MESSAGES).flat_map(update).collect()
 }
 
+/// The saved form of a table with so many entries.
+fn saved(values: usize, entries: usize) -> Vec<u8> {
+    let record = |i: usize| {
+        let (name, type_code, value) = entry(values, i, 0);
+        record(&name, type_code, FIRST_NUMBER, &value)
+    };
+    form(&(0..entries).map(record).collect::<Vec<_>>())
+}
+
 /// Heads and bytes of a table with so many entries.
 fn filled(values: usize, entries: usize) -> (Vec<Head>, Vec<u8>) {
     let (mut heads, mut bytes) = (vec![Head::default(); ENTRIES], vec![0; TABLE_BYTES]);
@@ -197,6 +216,7 @@ impl Subject {
                 LineRecord::updates(values, entries),
                 LineRecord::entries(values, entries),
             ],
+            saved: saved(values, entries),
             name,
             values: [value, other],
             version: 0,
@@ -207,6 +227,11 @@ impl Subject {
     /// The bytes of the answer to a hello, once one was made.
     pub fn hello_answer(&self) -> &[u8] {
         &self.out[..self.hello_sent]
+    }
+
+    /// The bytes of the saved form.
+    pub fn saved(&self) -> &[u8] {
+        &self.saved
     }
 
     fn table(&mut self) -> LentTable<'_> {
@@ -306,6 +331,8 @@ impl Subject {
                 let reason = if cut == 1 { Reason::REFUSED } else { Reason::NAME_HELD };
                 self.why::<I>(&message, reason, times);
             }
+            SAVE | SAVE_WITHOUT_ROOM => self.save::<I>(CALLS[call] == SAVE, times),
+            "load" => self.load::<I>(times),
             "create" => {
                 let (name, value) = (self.name.clone(), self.values[0].clone());
                 for _ in 0..times {
@@ -435,6 +462,31 @@ impl Subject {
             let told = black_box(I::why(table, marks, black_box(SENDER), black_box(message)));
             assert_eq!(told.reason, reason);
         }
+        self.marks[SENDER] = 1;
+    }
+
+    /// Saves, with just enough room or with one byte less.
+    fn save<I: Implementation>(&mut self, with_room: bool, times: usize) {
+        let size = self.saved.len();
+        let (room, expected) = if with_room { (size, (0, size)) } else { (size - 1, (12, 0)) };
+        for _ in 0..times {
+            let Subject { heads, bytes, count, out, .. } = self;
+            let table = LentTable { heads, bytes, count };
+            let answer = black_box(I::save(table, black_box(&mut out[..room])));
+            assert_eq!((answer.number, answer.sent), expected);
+        }
+    }
+
+    /// Loads the table over itself.
+    fn load<I: Implementation>(&mut self, times: usize) {
+        self.marks = [0; CONNECTIONS];
+        for _ in 0..times {
+            let Subject { heads, bytes, count, marks, saved, .. } = self;
+            let table = LentTable { heads, bytes, count };
+            let answer = black_box(I::load(table, marks, black_box(saved)));
+            assert_eq!((answer.number, answer.taken), (0, saved.len()));
+        }
+        self.marks = [2; CONNECTIONS];
         self.marks[SENDER] = 1;
     }
 

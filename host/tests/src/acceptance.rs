@@ -1,12 +1,14 @@
 //! Runs the acceptance cases, format nt2-cases-1 (`cases/FORMAT.md`).
 
 use crate::call::{Call, Hex, Outcome};
-use crate::convergence::Clients;
+use crate::convergence::{Clients, any_memory};
 use crate::implementation::Implementation;
 use crate::json::Json;
 use crate::line_record::ByHand;
 use crate::memory::{Guarded, Memory};
+use crate::random::Random;
 use crate::reason::real_call_differs;
+use crate::saved::{check_loaded, check_saved};
 use nt2_sys::{
     Answer, CONNECTIONS, Copied, Delivered, ENTRIES, Fields, Head, LONGEST_HELLO_ANSWER, Reason,
     Replayed, TABLE_BYTES,
@@ -16,7 +18,7 @@ use std::fs;
 use std::path::{Path, PathBuf};
 
 /// The files of cases, with the number of cases in each.
-pub const FILES: [(&str, usize); 10] = [
+pub const FILES: [(&str, usize); 11] = [
     ("client.json", 2527),
     ("copy.json", 755),
     ("deliver.json", 111),
@@ -24,6 +26,7 @@ pub const FILES: [(&str, usize); 10] = [
     ("local.json", 846),
     ("replay.json", 86),
     ("runs.json", 130),
+    ("saved.json", 485),
     ("unsound.json", 1321),
     ("why.json", 282),
     ("writer.json", 1960),
@@ -186,6 +189,12 @@ fn check_call<I: Implementation>(memories: &[Memory], case: &Json, name: &str) -
             check_replayed::<I>(case, &before, replayed)?;
         }
         Outcome::Reason(reason) => check_reason::<I>(case, &call, &before, reason)?,
+        Outcome::Saved(answer) => {
+            check_save::<I>(case, &before, answer, &out)?;
+        }
+        Outcome::Answer(answer) if matches!(call, Call::Load { .. }) => {
+            check_load::<I>(case, &server, answer)?;
+        }
         _ => check_outcome(case, &call, outcome)?,
     }
     check_output(case, outcome.written(), &out)?;
@@ -210,6 +219,8 @@ fn case_call(case: &Json, name: &str) -> Checked<Call> {
         "deliver" => Call::Deliver { connection: number(case, "n")?, input: hex(case, "i")? },
         "replay" => Call::Replay { record: hex(case, "i")? },
         "why" => Call::Why { connection: number(case, "n")?, message: hex(case, "i")? },
+        "save" => Call::Save,
+        "load" => Call::Load { saved: hex(case, "i")? },
         "create" => Call::Create {
             name: hex(case, "name")?,
             type_code: number(case, "t")?,
@@ -233,8 +244,8 @@ fn case_call(case: &Json, name: &str) -> Checked<Call> {
 }
 
 /// An answer with a case's [number, taken, sent, recipients] and its place.
-fn expected_answer(result: &Json, place: usize) -> Checked<Answer> {
-    let [number, taken, sent, recipients] = result.list()? else {
+fn expected_answer(result: &[Json], place: usize) -> Checked<Answer> {
+    let [number, taken, sent, recipients] = result else {
         return Err("an answer has four fields".into());
     };
     Ok(Answer {
@@ -248,7 +259,7 @@ fn expected_answer(result: &Json, place: usize) -> Checked<Answer> {
 
 fn check_outcome(case: &Json, call: &Call, outcome: Outcome) -> Checked {
     let place = case.get("p").map_or(Ok(0), Json::number)?;
-    let expected = expected_answer(member(case, "r")?, place)?;
+    let expected = expected_answer(member(case, "r")?.list()?, place)?;
     let (number, taken) = (expected.number, expected.taken);
     let as_expected = match (outcome, call) {
         (Outcome::Answer(answer), _) => answer == expected,
@@ -261,10 +272,7 @@ fn check_outcome(case: &Json, call: &Call, outcome: Outcome) -> Checked {
             (fields.number, fields.taken, fields.place) == (number, taken, place)
                 && fields_match(case, fields, &bytes.0)?
         }
-        (
-            Outcome::Fields(_) | Outcome::Delivered(_) | Outcome::Replayed(_) | Outcome::Reason(_),
-            _,
-        ) => false,
+        _ => false,
     };
     if as_expected {
         Ok(())
@@ -336,6 +344,38 @@ fn check_reason<I: Implementation>(
         Some(answer) => Err(format!("{call:?} answers {reason:?}, the call itself {answer:?}")),
         None => Ok(()),
     }
+}
+
+/// A save with a case's [number, taken, sent, recipients]. What was saved is loaded again, into memory
+/// that holds something else.
+fn check_save<I: Implementation>(
+    case: &Json,
+    before: &Memory,
+    answer: Answer,
+    out: &Guarded<u8>,
+) -> Checked {
+    let expected = expected_answer(member(case, "x")?.list()?, 0)?;
+    if answer != expected {
+        return Err(format!("save answers {answer:?}, not {expected:?}"));
+    }
+    if answer.number != 0 {
+        return Ok(());
+    }
+    let mut other = any_memory(&mut Random::new(answer.sent as u64));
+    check_saved::<I>(before, &out.lent()[..answer.sent], &mut other)
+}
+
+/// A load with a case's [number, taken, sent, recipients, place]. What was loaded is saved again.
+fn check_load<I: Implementation>(case: &Json, after: &Memory, answer: Answer) -> Checked {
+    let (place, result) = member(case, "x")?.list()?.split_last().ok_or("a load has a place")?;
+    let expected = expected_answer(result, place.number()?)?;
+    if answer != expected {
+        return Err(format!("load answers {answer:?}, not {expected:?}"));
+    }
+    if answer.number != 0 {
+        return Ok(());
+    }
+    check_loaded::<I>(&mut after.clone(), &bytes(case, "i")?)
 }
 
 fn expected_reason(told: &[Json]) -> Checked<Reason> {
@@ -523,7 +563,7 @@ fn check_step<I: Implementation>(
         return Err("a step's answer".into());
     };
     // A step has no place of its own to compare with.
-    let expected = expected_answer(result, answer.place)?;
+    let expected = expected_answer(result.list()?, answer.place)?;
     if answer != expected {
         return Err(format!("{call:?} answers {answer:?}, not {expected:?}"));
     }

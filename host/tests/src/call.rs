@@ -2,7 +2,7 @@
 
 use crate::implementation::Implementation;
 use crate::memory::{Guarded, Memory};
-use crate::reason;
+use crate::{reason, saved};
 use nt2_sys::{Answer, Copied, Delivered, Fields, Reason, Replayed, Scalar};
 use std::fmt;
 use std::hint::black_box;
@@ -19,7 +19,7 @@ impl fmt::Debug for Hex {
 }
 
 /// The calls that there are.
-pub const CALLS: usize = 15;
+pub const CALLS: usize = 18;
 
 /// A call on a server's table, on a copy, or on single messages.
 #[derive(Clone, Debug)]
@@ -31,6 +31,8 @@ pub enum Call {
     Deliver { connection: usize, input: Hex },
     Replay { record: Hex },
     Why { connection: usize, message: Hex },
+    Save,
+    Load { saved: Hex },
     Create { name: Hex, type_code: u8, value: Hex },
     Write { id: u16, value: Hex },
     Read { id: u16 },
@@ -39,6 +41,7 @@ pub enum Call {
     CopyFresh,
     CopyReceive { message: Hex },
     CopyRead { id: u16 },
+    CopySave,
 }
 
 /// The bytes that a call only reads, each in guarded memory.
@@ -61,6 +64,8 @@ pub enum Outcome {
     Delivered(Delivered),
     Replayed(Replayed),
     Reason(Reason),
+    /// Of a call that changes nothing but the output.
+    Saved(Answer),
 }
 
 impl Call {
@@ -72,6 +77,8 @@ impl Call {
         "deliver",
         "replay",
         "why",
+        "save",
+        "load",
         "create",
         "write",
         "read",
@@ -80,6 +87,7 @@ impl Call {
         "copy_fresh",
         "copy_receive",
         "copy_read",
+        "copy_save",
     ];
 
     /// The call's index among the names.
@@ -92,14 +100,17 @@ impl Call {
             Call::Deliver { .. } => 4,
             Call::Replay { .. } => 5,
             Call::Why { .. } => 6,
-            Call::Create { .. } => 7,
-            Call::Write { .. } => 8,
-            Call::Read { .. } => 9,
-            Call::Encode { .. } => 10,
-            Call::Decode { .. } => 11,
-            Call::CopyFresh => 12,
-            Call::CopyReceive { .. } => 13,
-            Call::CopyRead { .. } => 14,
+            Call::Save => 7,
+            Call::Load { .. } => 8,
+            Call::Create { .. } => 9,
+            Call::Write { .. } => 10,
+            Call::Read { .. } => 11,
+            Call::Encode { .. } => 12,
+            Call::Decode { .. } => 13,
+            Call::CopyFresh => 14,
+            Call::CopyReceive { .. } => 15,
+            Call::CopyRead { .. } => 16,
+            Call::CopySave => 17,
         }
     }
 
@@ -109,6 +120,7 @@ impl Call {
             | Call::Deliver { input: message, .. }
             | Call::Replay { record: message }
             | Call::Why { message, .. }
+            | Call::Load { saved: message }
             | Call::CopyReceive { message }
             | Call::Decode { bytes: message, .. } => (&message.0, &[], &[]),
             Call::Create { name, value, .. } | Call::Encode { name, value, .. } => {
@@ -130,7 +142,7 @@ impl Call {
         out: &mut Guarded<u8>,
     ) -> Result<Outcome, String> {
         let inputs = self.inputs();
-        let outcome = self.perform_with::<I>(&inputs, server, copy, out);
+        let outcome = self.perform_with::<I>(&inputs, server, copy, out.lent_mut());
         // The compiler takes what is lent as shared for unchanged; it has to be read again.
         black_box((&mut *server, &mut *copy));
         if *black_box(&inputs) == self.inputs() {
@@ -145,10 +157,9 @@ impl Call {
         inputs: &Inputs,
         server: &mut Memory,
         copy: &mut Memory,
-        out: &mut Guarded<u8>,
+        out: &mut [u8],
     ) -> Outcome {
         let (table, marks) = server.lend();
-        let out = out.lent_mut();
         let (message, name, value) =
             (inputs.message.lent(), inputs.name.lent(), inputs.value.lent());
         match self {
@@ -165,11 +176,27 @@ impl Call {
             Call::Why { connection, .. } => {
                 Outcome::Reason(I::why(table, marks, *connection, message))
             }
+            Call::Save => Outcome::Saved(I::save(table, out)),
+            Call::Load { .. } => Outcome::Answer(I::load(table, marks, message)),
             Call::Create { type_code, .. } => {
                 Outcome::Answer(I::create(table, marks, name, *type_code, value, out))
             }
             Call::Write { id, .. } => Outcome::Answer(I::write(table, marks, *id, value, out)),
             Call::Read { id } => Outcome::Scalar(I::read(table, *id)),
+            _ => self.perform_elsewhere::<I>(inputs, copy, out),
+        }
+    }
+
+    /// Makes a call on a copy or on single messages.
+    fn perform_elsewhere<I: Implementation>(
+        &self,
+        inputs: &Inputs,
+        copy: &mut Memory,
+        out: &mut [u8],
+    ) -> Outcome {
+        let (message, name, value) =
+            (inputs.message.lent(), inputs.name.lent(), inputs.value.lent());
+        match self {
             Call::Encode { kind, revision, type_code, id, number, .. } => Outcome::Answer(
                 I::encode(*kind, *revision, name, *type_code, *id, *number, value, out),
             ),
@@ -179,6 +206,8 @@ impl Call {
                 Outcome::Copied(I::copy_receive(copy.lend_table(), message))
             }
             Call::CopyRead { id } => Outcome::Scalar(I::read(copy.lend_table(), *id)),
+            Call::CopySave => Outcome::Saved(I::save(copy.lend_table(), out)),
+            _ => unreachable!("a call on a server's table"),
         }
     }
 }
@@ -186,7 +215,7 @@ impl Call {
 impl Outcome {
     pub fn number(&self) -> u8 {
         match self {
-            Outcome::Answer(answer) => answer.number,
+            Outcome::Answer(answer) | Outcome::Saved(answer) => answer.number,
             Outcome::Scalar(scalar) => scalar.number,
             Outcome::Fields(fields) => fields.number,
             Outcome::Copied(copied) => copied.number,
@@ -199,7 +228,7 @@ impl Outcome {
     /// Bytes of the output that are written.
     pub fn written(&self) -> usize {
         match self {
-            Outcome::Answer(answer) => answer.sent,
+            Outcome::Answer(answer) | Outcome::Saved(answer) => answer.sent,
             Outcome::Delivered(delivered) => delivered.written,
             _ => 0,
         }
@@ -211,7 +240,7 @@ impl Outcome {
         match self {
             Outcome::Delivered(delivered) => delivered.written > 0,
             Outcome::Replayed(replayed) => replayed.number != 14,
-            Outcome::Reason(_) => false,
+            Outcome::Reason(_) | Outcome::Saved(_) => false,
             _ => self.number() == 0,
         }
     }
@@ -219,7 +248,7 @@ impl Outcome {
     /// The place of a fault; 0 where there is none.
     pub fn place(&self) -> usize {
         match self {
-            Outcome::Answer(answer) => answer.place,
+            Outcome::Answer(answer) | Outcome::Saved(answer) => answer.place,
             Outcome::Scalar(_) | Outcome::Replayed(_) => 0,
             Outcome::Fields(fields) => fields.place,
             Outcome::Copied(copied) => copied.place,
@@ -242,11 +271,11 @@ impl Outcome {
     }
 
     /// Whether a refusal, or a message ignored, says that nothing came of it, whether a delivery's
-    /// number belongs to its end, a line record has one of its numbers and a reason the fields that it
-    /// tells, and whether only a refusal that can have a place has one.
+    /// number belongs to its end, a line record has one of its numbers, a reason the fields that it tells
+    /// and a saved table the bytes that it can have, and whether only a refusal that can have a place has one.
     pub fn keeps_form(&self) -> bool {
         let (number, place) = (self.number(), self.place());
-        let refused = (1..=14).contains(&number);
+        let refused = (1..=15).contains(&number);
         let in_form = match *self {
             Outcome::Delivered(d) => match d.ended {
                 Delivered::REFUSED => refused,
@@ -255,6 +284,7 @@ impl Outcome {
             },
             Outcome::Replayed(r) => matches!(number, 0 | 1 | 4) || number == 14 && r.records == 0,
             Outcome::Reason(r) => reason::keeps_form(r),
+            Outcome::Saved(a) => saved::keeps_form(a),
             _ if number == 0 => true,
             Outcome::Answer(a) => a.sent == 0 && a.recipients == 0 && (!refused || a.taken == 0),
             Outcome::Scalar(s) => s == Scalar { number, ..Scalar::default() },
@@ -270,7 +300,8 @@ impl Outcome {
 impl PartialEq for Outcome {
     fn eq(&self, other: &Outcome) -> bool {
         match (self, other) {
-            (Outcome::Answer(left), Outcome::Answer(right)) => left == right,
+            (Outcome::Answer(left), Outcome::Answer(right))
+            | (Outcome::Saved(left), Outcome::Saved(right)) => left == right,
             (Outcome::Fields(left), Outcome::Fields(right)) => left == right,
             (Outcome::Copied(left), Outcome::Copied(right)) => left == right,
             (Outcome::Delivered(left), Outcome::Delivered(right)) => left == right,

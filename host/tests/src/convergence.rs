@@ -1,13 +1,14 @@
 //! Demand 3: after any run each clean client's copy equals the table.
 
-use crate::call::{Call, Outcome};
+use crate::call::{Call, Hex, Outcome};
 use crate::delivery::{HELLO, SingleCalls, Taken};
 use crate::generate::{Generator, MOST_ROOM, Weights};
 use crate::implementation::Implementation;
 use crate::line_record::ByHand;
 use crate::memory::{Guarded, Memory};
 use crate::random::Random;
-use nt2_sys::{Answer, CONNECTIONS, ENTRIES, Head, TABLE_BYTES, headed};
+use crate::saved::check_saved;
+use nt2_sys::{Answer, CONNECTIONS, ENTRIES, Head, LONGEST_SAVED, TABLE_BYTES, headed};
 
 /// The kind of an update.
 const UPDATE: u8 = 0x11;
@@ -42,13 +43,31 @@ impl Clients {
             return;
         }
         match call {
-            Call::Fresh => *self = Clients::new(),
+            Call::Fresh | Call::Load { .. } => *self = Clients::new(),
             Call::Leave { connection } => self.addressed[*connection] = None,
             Call::Receive { connection, message } => {
                 self.follow_message(*connection, &message.0, answer.recipients, sent);
             }
             _ => self.address(answer.recipients, sent),
         }
+    }
+
+    /// Follows a call of the run, which may be a delivery.
+    fn follow_made(
+        &mut self,
+        call: &Call,
+        outcome: Outcome,
+        made: &SingleCalls<'_>,
+        written: &[u8],
+    ) -> Result<(), String> {
+        match (call, outcome) {
+            (Call::Deliver { connection, .. }, _) => {
+                self.follow_delivery(*connection, made, written)?;
+            }
+            (_, Outcome::Answer(answer)) => self.follow(call, answer, written),
+            _ => {}
+        }
+        Ok(())
     }
 
     /// Follows a delivery by what it wrote, each message that is done as a call of the run. Single
@@ -145,7 +164,7 @@ fn copy_of<I: Implementation>(mut bytes: &[u8], seed: u64) -> Result<(Memory, us
 }
 
 /// Counts, types, numbers, names and values of two tables.
-fn same_entries(server: &Memory, copy: &Memory) -> Result<(), String> {
+pub fn same_entries(server: &Memory, copy: &Memory) -> Result<(), String> {
     if server.count() != copy.count() {
         return Err(format!("{} entries, the copy has {}", server.count(), copy.count()));
     }
@@ -164,19 +183,48 @@ fn same_entries(server: &Memory, copy: &Memory) -> Result<(), String> {
     Ok(())
 }
 
+/// Calls of the run that made a table to load, at most.
+const EARLIER_CALLS: usize = 1500;
+
+/// How a run begins: with a fresh start, and behind it, for every second seed, with the load of a table
+/// that an earlier run left and saved.
+fn beginning<S: Implementation>(seed: u64, random: &mut Random) -> Result<Vec<Call>, String> {
+    if seed.is_multiple_of(2) {
+        return Ok(vec![Call::Fresh]);
+    }
+    let (mut earlier, mut unused) = (any_memory(random), any_memory(random));
+    let mut out = Guarded::output(MOST_ROOM);
+    let mut generator = Generator::new(random.number(), Weights::RUN);
+    Call::Fresh.perform::<S>(&mut earlier, &mut unused, &mut out)?;
+    let most = random.pick(&[1, EARLIER_CALLS / 30, EARLIER_CALLS / 5, EARLIER_CALLS]);
+    for _ in 0..random.below(most) {
+        let (call, room) = generator.call(&earlier, &unused);
+        out.lend_only(room);
+        call.perform::<S>(&mut earlier, &mut unused, &mut out)?;
+    }
+    let mut saved = vec![0; LONGEST_SAVED];
+    let answer = S::save(earlier.lend_table(), &mut saved);
+    saved.truncate(answer.sent);
+    check_saved::<S>(&earlier, &saved, &mut unused)?;
+    Ok(vec![Call::Fresh, Call::Load { saved: Hex(saved) }])
+}
+
 /// What came of a run.
 #[derive(Clone, Copy, Debug, Default)]
 pub struct Run {
     pub calls: usize,
     pub done: usize,
+    /// Whether it begins with a load, and the entries that were loaded.
+    pub loads: usize,
+    pub entries_loaded: usize,
     /// Messages that deliveries took, and hellos accepted among them.
     pub delivered: usize,
     pub hellos_delivered: usize,
     pub compared: Compared,
 }
 
-/// A run of random calls from a seed. Its clients' copies are compared some times on the way,
-/// since each beginning of a run is a run, and at its end.
+/// A run of random calls from a seed, on memory with any contents. Its clients' copies are compared some
+/// times on the way, since each beginning of a run is a run, and at its end.
 pub fn run<S: Implementation, C: Implementation>(seed: u64, calls: usize) -> Result<Run, String> {
     let mut random = Random::new(seed);
     let mut server = any_memory(&mut random);
@@ -184,27 +232,24 @@ pub fn run<S: Implementation, C: Implementation>(seed: u64, calls: usize) -> Res
     let mut out = Guarded::output(MOST_ROOM);
     let mut generator = Generator::new(random.number(), Weights::RUN);
     generator.choose_readers();
+    let beginning = beginning::<S>(seed, &mut random)?;
     let (mut clients, mut run) = (Clients::new(), Run::default());
     for place in 0..calls {
-        let (call, room) = match place {
-            0 => (Call::Fresh, 0),
-            _ => generator.call(&server, &unused),
+        let (call, room) = match beginning.get(place) {
+            Some(call) => (call.clone(), 0),
+            None => generator.call(&server, &unused),
         };
         out.lend_only(room);
         let made = single_calls::<S>(&call, &server, room);
         let outcome = call.perform::<S>(&mut server, &mut unused, &mut out)?;
         run.count(outcome, &made);
-        let written = &out.lent()[..outcome.written()];
-        match (&call, outcome) {
-            (Call::Deliver { connection, .. }, _) => {
-                clients.follow_delivery(*connection, &made, written)?;
-            }
-            (_, Outcome::Answer(answer)) => clients.follow(&call, answer, written),
-            _ => {}
-        }
+        clients.follow_made(&call, outcome, &made, &out.lent()[..outcome.written()])?;
         out.refill(outcome.written());
-        if place == 0 && outcome.number() != 0 {
-            return Err("the fresh start is refused".into());
+        if place < beginning.len() && outcome.number() != 0 {
+            return Err(format!("it begins with a refusal: {call:?}, {outcome:?}"));
+        }
+        if matches!(call, Call::Load { .. }) {
+            (run.loads, run.entries_loaded) = (1, server.count());
         }
         if place + 1 == calls || place % (calls / 3 + 1) == 1 {
             run.compared = clients
@@ -248,6 +293,8 @@ impl Run {
     pub fn add(&mut self, other: &Run) {
         self.calls += other.calls;
         self.done += other.done;
+        self.loads += other.loads;
+        self.entries_loaded += other.entries_loaded;
         self.delivered += other.delivered;
         self.hellos_delivered += other.hellos_delivered;
         self.compared.add(&other.compared);

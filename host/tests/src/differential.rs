@@ -7,6 +7,7 @@ use crate::implementation::Implementation;
 use crate::line_record::{self, ByHand};
 use crate::memory::{Guarded, Memory};
 use crate::reason::{self, Asked, real_call_differs};
+use crate::saved::{self, Loaded, check_loaded, check_saved};
 use nt2_sys::headed;
 use std::collections::BTreeSet;
 use std::marker::PhantomData;
@@ -32,9 +33,9 @@ impl Answers {
     }
 }
 
-/// By call, as in [`Call::NAMES`]. In a message no place is 0, but that of a type given for it and, in a
-/// reason, that of a kind not there. Of a name alone every place is 0, of a value alone that of a text is
-/// not.
+/// By call, as in [`Call::NAMES`]. In a message or a saved table no place is 0, but that of a type given
+/// for it and, in a reason, that of a kind not there. Of a name alone every place is 0, of a value alone
+/// that of a text is not.
 const ANSWERS: [Answers; CALLS] = [
     Answers::without_place(&[0, 14]),
     Answers::without_place(&[0, 2, 3, 14]),
@@ -55,6 +56,8 @@ const ANSWERS: [Answers; CALLS] = [
         at_0: &[1],
         above_0: &[1, 5, 6, 7, 8, 9, 10],
     },
+    Answers::without_place(&[0, 12, 14]),
+    Answers { numbers: &[0, 1, 3, 4, 7, 8, 9, 10, 13, 14, 15], at_0: &[], above_0: &[7, 8, 9, 10] },
     Answers {
         numbers: &[0, 1, 7, 8, 9, 10, 11, 12, 13, 14],
         at_0: &[7, 8, 9, 10],
@@ -71,10 +74,11 @@ const ANSWERS: [Answers; CALLS] = [
         above_0: &[7, 8, 9, 10],
     },
     Answers::without_place(&[0, 6, 14]),
+    Answers::without_place(&[0, 12, 14]),
 ];
 
 /// Comparisons by call and number, the places of faults that were met with each, and the deliveries,
-/// line records and reasons of each sort.
+/// line records, reasons and loads of each sort.
 #[derive(Clone, Debug)]
 pub struct Report {
     pub comparisons: u64,
@@ -83,6 +87,7 @@ pub struct Report {
     deliveries: [(&'static str, u64); SORTS],
     line_records: [(&'static str, u64); line_record::SORTS.len()],
     reasons: [(&'static str, u64); reason::SORTS],
+    loads: [(&'static str, u64); saved::SORTS],
 }
 
 impl Report {
@@ -94,6 +99,7 @@ impl Report {
             deliveries: SingleCalls::default().sorts().map(|(sort, _)| (sort, 0)),
             line_records: line_record::SORTS.map(|sort| (sort, 0)),
             reasons: Asked::no_sorts(),
+            loads: Loaded::no_sorts(),
         }
     }
 
@@ -118,19 +124,24 @@ impl Report {
         count_sorts(&mut self.reasons, &asked.sorts());
     }
 
+    fn count_load(&mut self, loaded: &Loaded<'_>) {
+        count_sorts(&mut self.loads, &loaded.sorts());
+    }
+
     fn add(&mut self, other: &Report) {
         self.comparisons += other.comparisons;
         self.places.extend(&other.places);
         add_sorts(&mut self.deliveries, &other.deliveries);
         add_sorts(&mut self.line_records, &other.line_records);
         add_sorts(&mut self.reasons, &other.reasons);
+        add_sorts(&mut self.loads, &other.loads);
         for (row, others) in self.numbers.iter_mut().zip(&other.numbers) {
             row.iter_mut().zip(others).for_each(|(n, m)| *n += m);
         }
     }
 
     /// Answers that a call can give and that were not met: numbers, and places at 0 and above 0. Sorts
-    /// of deliveries, line records and reasons too.
+    /// of deliveries, line records, reasons and loads too.
     pub fn missed(&self) -> Vec<String> {
         let calls = Call::NAMES.iter().zip(&ANSWERS).enumerate();
         let answers = calls.flat_map(|(call, (name, answers))| {
@@ -140,7 +151,8 @@ impl Report {
         let deliveries = self.deliveries.iter().map(|sort| ("delivery", sort));
         let sorts = deliveries
             .chain(self.line_records.iter().map(|sort| ("line record", sort)))
-            .chain(self.reasons.iter().map(|sort| ("reason", sort)));
+            .chain(self.reasons.iter().map(|sort| ("reason", sort)))
+            .chain(self.loads.iter().map(|sort| ("load", sort)));
         let sorts = sorts.filter(|(_, (_, count))| *count == 0);
         answers.chain(sorts.map(|(of, (sort, _))| format!("{of} {sort}"))).collect()
     }
@@ -162,7 +174,7 @@ impl Report {
     }
 
     /// A line for each call: how often it answered with which number, and at how many places. One each
-    /// for the sorts of deliveries, of line records and of reasons.
+    /// for the sorts of deliveries, of line records, of reasons and of loads.
     pub fn lines(&self) -> Vec<String> {
         let calls = Call::NAMES.iter().zip(&self.numbers).enumerate();
         let line = |name: &str, met: Vec<String>| format!("  {name:<12} {}", met.join(", "));
@@ -178,6 +190,7 @@ impl Report {
             line("deliveries", sorts(&self.deliveries)),
             line("line records", sorts(&self.line_records)),
             line("reasons", sorts(&self.reasons)),
+            line("loads", sorts(&self.loads)),
         ];
         calls.chain(sorts).collect()
     }
@@ -220,7 +233,8 @@ struct Series<L, R> {
     before: (Memory, Memory),
     left: Side,
     right: Side,
-    /// The right implementation's single calls, beside its deliveries and reasons.
+    /// The right implementation's single calls, beside its deliveries and reasons, and its loads of
+    /// what it saved.
     single: Side,
     report: Report,
     implementations: PhantomData<(L, R)>,
@@ -261,7 +275,8 @@ impl<L: Implementation, R: Implementation> Series<L, R> {
                 let (call, room) = self.generator.call(&self.before.0, &self.before.1);
                 match call {
                     Call::Replay { .. } => self.replay(&call),
-                    _ => self.compare(&call, room),
+                    Call::Load { .. } => self.load(&call),
+                    _ => self.compare(&call, room).map(|_| ()),
                 }
             };
             result.map_err(|failure| format!("step {step}: {failure}"))?;
@@ -299,6 +314,22 @@ impl<L: Implementation, R: Implementation> Series<L, R> {
         Ok(())
     }
 
+    /// A load with the connections closed, on memory that may be damaged. Every second table that is
+    /// loaded is gone on with, beside the connections of before.
+    fn load(&mut self, call: &Call) -> Result<(), String> {
+        let sound = self.before.clone();
+        self.generator.before_load(&mut self.before.0);
+        self.set_both();
+        let loaded = self.compare(call, 0)?.number() == 0;
+        if loaded && self.generator.random.percent(50) {
+            self.before.0.marks.copy_from(&sound.0.marks);
+        } else {
+            self.before = sound;
+        }
+        self.set_both();
+        Ok(())
+    }
+
     fn set_both(&mut self) {
         for side in [&mut self.left, &mut self.right] {
             side.server.copy_from(&self.before.0);
@@ -308,7 +339,7 @@ impl<L: Implementation, R: Implementation> Series<L, R> {
 
     /// Makes a call on both sides and compares. A client's message is asked about first, and so is the
     /// first one of a delivery.
-    fn compare(&mut self, call: &Call, room: usize) -> Result<(), String> {
+    fn compare(&mut self, call: &Call, room: usize) -> Result<Outcome, String> {
         if let Call::Receive { connection, message }
         | Call::Deliver { connection, input: message } = call
         {
@@ -320,13 +351,15 @@ impl<L: Implementation, R: Implementation> Series<L, R> {
 
     /// Makes a call on both sides and compares answer, output and memory. What the call only reads is
     /// in guarded memory too.
-    fn compare_one(&mut self, call: &Call, room: usize) -> Result<(), String> {
+    fn compare_one(&mut self, call: &Call, room: usize) -> Result<Outcome, String> {
         let outcome = self.left.perform::<L>(call, room)?;
         let other = self.right.perform::<R>(call, room)?;
         self.check_answers(outcome, other)
             .and_then(|()| self.check_single_calls(call, outcome))
             .and_then(|()| self.check_by_hand(call, outcome))
             .and_then(|()| self.check_real_call(call, outcome))
+            .and_then(|()| self.check_saved_form(call, outcome))
+            .and_then(|()| self.check_load(call, outcome))
             .and_then(|()| self.check_memories(outcome))
             .map_err(|what| {
                 let (left, right) = (L::NAME, R::NAME);
@@ -338,7 +371,7 @@ impl<L: Implementation, R: Implementation> Series<L, R> {
         self.left.out.refill(written);
         self.right.out.refill(written);
         self.report.count(call, outcome);
-        Ok(())
+        Ok(outcome)
     }
 
     fn check_answers(&self, outcome: Outcome, other: Outcome) -> Result<(), String> {
@@ -406,6 +439,33 @@ impl<L: Implementation, R: Implementation> Series<L, R> {
         Ok(())
     }
 
+    /// What is saved is the form of the table, and loaded into the other memory it gives the same one.
+    fn check_saved_form(&mut self, call: &Call, outcome: Outcome) -> Result<(), String> {
+        let (table, other) = match call {
+            Call::Save => (&self.before.0, &self.before.1),
+            Call::CopySave => (&self.before.1, &self.before.0),
+            _ => return Ok(()),
+        };
+        if outcome.number() != 0 {
+            return Ok(());
+        }
+        self.single.server.copy_from(other);
+        let saved = &self.right.out.lent()[..outcome.written()];
+        check_saved::<R>(table, saved, &mut self.single.server)
+    }
+
+    /// What is loaded is saved as the same bytes.
+    fn check_load(&mut self, call: &Call, outcome: Outcome) -> Result<(), String> {
+        let (Call::Load { saved }, Outcome::Answer(answer)) = (call, outcome) else {
+            return Ok(());
+        };
+        if answer.number == 0 {
+            check_loaded::<R>(&mut self.right.server, &saved.0)?;
+        }
+        self.report.count_load(&Loaded { before: &self.before.0, saved: &saved.0, answer });
+        Ok(())
+    }
+
     fn check_memories(&mut self, outcome: Outcome) -> Result<(), String> {
         let (left, right) = (&self.left, &self.right);
         check_memory(&left.server, &right.server, &mut self.before.0, outcome)?;
@@ -419,6 +479,7 @@ impl<L: Implementation, R: Implementation> Series<L, R> {
             Call::Deliver { .. } => {
                 headed(written).for_each(|(_, bytes)| self.generator.keep_sent(bytes));
             }
+            Call::Save | Call::CopySave => {}
             _ => self.generator.keep_sent(written),
         }
     }

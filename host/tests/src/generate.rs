@@ -1,6 +1,7 @@
 //! Random calls that fit the state of a table, and damaged ones.
 
 mod record;
+mod saved;
 mod shown;
 
 pub use shown::Directed;
@@ -80,9 +81,11 @@ pub struct Weights(pub [usize; CALLS]);
 
 impl Weights {
     /// All calls, for the differential test.
-    pub const ALL: Weights = Weights([2, 50, 20, 390, 40, 10, 60, 80, 120, 30, 60, 80, 2, 110, 16]);
+    pub const ALL: Weights =
+        Weights([2, 50, 20, 390, 40, 20, 60, 30, 90, 80, 120, 30, 60, 80, 2, 110, 16, 10]);
     /// The calls of a run in demand 3, which begins with the only fresh start.
-    pub const RUN: Weights = Weights([0, 20, 2, 500, 60, 0, 0, 40, 350, 28, 0, 0, 0, 0, 0]);
+    pub const RUN: Weights =
+        Weights([0, 20, 2, 500, 60, 0, 0, 5, 0, 40, 350, 28, 0, 0, 0, 0, 0, 0]);
 }
 
 pub struct Generator {
@@ -173,14 +176,17 @@ impl Generator {
             4 => self.deliver(server),
             5 => self.replay(),
             6 => (self.why(server), 0),
-            7 => self.create(server),
-            8 => self.write(server),
-            9 => (Call::Read { id: self.id(server) }, 0),
-            10 => self.encode(server),
-            11 => self.decode(server),
-            12 => (Call::CopyFresh, 0),
-            13 => (Call::CopyReceive { message: Hex(self.server_message(copy)) }, 0),
-            _ => (Call::CopyRead { id: self.id(copy) }, 0),
+            7 => self.save(Call::Save, server),
+            8 => (self.load(server, copy), 0),
+            9 => self.create(server),
+            10 => self.write(server),
+            11 => (Call::Read { id: self.id(server) }, 0),
+            12 => self.encode(server),
+            13 => self.decode(server),
+            14 => (Call::CopyFresh, 0),
+            15 => (Call::CopyReceive { message: Hex(self.server_message(copy)) }, 0),
+            16 => (Call::CopyRead { id: self.id(copy) }, 0),
+            _ => self.save(Call::CopySave, copy),
         }
     }
 

@@ -25,6 +25,8 @@ pub trait Implementation {
     ) -> Delivered;
     fn replay(table: LentTable<'_>, marks: &mut [u8], record: &[u8]) -> Replayed;
     fn why(table: LentTable<'_>, marks: &mut [u8], connection: usize, message: &[u8]) -> Reason;
+    fn save(table: LentTable<'_>, out: &mut [u8]) -> Answer;
+    fn load(table: LentTable<'_>, marks: &mut [u8], saved: &[u8]) -> Answer;
     fn create(
         table: LentTable<'_>,
         marks: &mut [u8],
@@ -57,9 +59,10 @@ pub trait Implementation {
     fn copy_receive(table: LentTable<'_>, message: &[u8]) -> Copied;
 }
 
-/// Implements the trait by a module's functions of the same names.
+/// Implements the trait by a module's functions of the same names; those that only read a table are
+/// given.
 macro_rules! implementation_by {
-    ($implementation:ty, $name:literal, $module:path, $read:expr) => {
+    ($implementation:ty, $name:literal, $module:path, $read:expr, $save:expr) => {
         impl Implementation for $implementation {
             const NAME: &'static str = $name;
 
@@ -113,6 +116,15 @@ macro_rules! implementation_by {
             ) -> Reason {
                 use $module as calls;
                 calls::why(table, marks, connection, message)
+            }
+
+            fn save(table: LentTable<'_>, out: &mut [u8]) -> Answer {
+                $save(table, out)
+            }
+
+            fn load(table: LentTable<'_>, marks: &mut [u8], saved: &[u8]) -> Answer {
+                use $module as calls;
+                calls::load(table, marks, saved)
             }
 
             fn create(
@@ -177,16 +189,17 @@ macro_rules! implementation_by {
 /// The reference in plain safe Rust.
 pub struct Reference;
 
-implementation_by!(Reference, "reference", reference, reference::read);
+implementation_by!(Reference, "reference", reference, reference::read, reference::save);
 
 /// libnt2.a.
 #[cfg(feature = "library")]
 pub struct Library;
 
 #[cfg(feature = "library")]
-implementation_by!(Library, "library", nt2::lent, |table: LentTable<'_>, id| nt2::lent::read(
-    table.heads,
-    table.bytes,
-    table.count,
-    id
-));
+implementation_by!(
+    Library,
+    "library",
+    nt2::lent,
+    |table: LentTable<'_>, id| nt2::lent::read(table.heads, table.bytes, table.count, id),
+    |table: LentTable<'_>, out| nt2::lent::save(table.heads, table.bytes, table.count, out)
+);

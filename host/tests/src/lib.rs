@@ -19,4 +19,5 @@ pub mod memory;
 pub mod program;
 pub mod random;
 pub mod reason;
+pub mod saved;
 pub mod table_text;

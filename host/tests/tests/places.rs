@@ -2,10 +2,14 @@
 //! acceptance cases each in some calls. With no wrong place neither finds a difference. Those of reasons
 //! are among the wrong reasons in `random`.
 
-use nt2_sys::{Answer, Copied, Delivered, Fields, LentTable, Reason, Replayed, Scalar};
+use nt2_sys::{
+    Answer, Copied, Delivered, Fields, LentTable, Reason, Replayed, SAVED_ENTRY, SAVED_FIRST,
+    Scalar,
+};
 use nt2_tests::acceptance::{FILES, folder, run_file};
 use nt2_tests::differential::{Bounds, compare};
 use nt2_tests::implementation::{Implementation, Reference};
+use nt2_tests::saved::VALUE;
 use std::time::Duration;
 
 const BOUNDS: Bounds =
@@ -21,11 +25,12 @@ const ENCODE: usize = 3;
 const DECODE: usize = 4;
 const COPY_RECEIVE: usize = 5;
 const DELIVER: usize = 6;
-const EVERY_CALL: usize = 7;
+const LOAD: usize = 7;
+const EVERY_CALL: usize = 8;
 
 /// The calls as a failure shows them.
-const SHOWN: [&str; 7] =
-    ["Receive", "Create", "Write", "Encode", "Decode", "CopyReceive", "Deliver"];
+const SHOWN: [&str; 8] =
+    ["Receive", "Create", "Write", "Encode", "Decode", "CopyReceive", "Deliver", "Load"];
 
 const TEXT_AT_ITS_LENGTH: usize = 0;
 const TEXT_AT_ITS_BAD_BYTE: usize = 1;
@@ -53,6 +58,12 @@ impl<'a> Found<'a> {
             [0x10, high, low, ..] => 8 + usize::from(u16::from_be_bytes([*high, *low])),
             _ => 5,
         };
+        Found { number, place, bytes, value }
+    }
+
+    fn in_saved(number: u8, place: usize, bytes: &'a [u8]) -> Self {
+        let entry = place.saturating_sub(SAVED_FIRST) / SAVED_ENTRY;
+        let value = SAVED_FIRST + SAVED_ENTRY * entry + VALUE;
         Found { number, place, bytes, value }
     }
 
@@ -140,6 +151,16 @@ impl<const CALL: usize, const WRONG: usize> Implementation for Misplaced<CALL, W
         Reference::why(table, marks, connection, message)
     }
 
+    fn save(table: LentTable<'_>, out: &mut [u8]) -> Answer {
+        Reference::save(table, out)
+    }
+
+    fn load(table: LentTable<'_>, marks: &mut [u8], saved: &[u8]) -> Answer {
+        let answer = Reference::load(table, marks, saved);
+        let found = Found::in_saved(answer.number, answer.place, saved);
+        Answer { place: Self::place(LOAD, &found), ..answer }
+    }
+
     fn create(
         table: LentTable<'_>,
         marks: &mut [u8],
@@ -211,6 +232,7 @@ fn found<const CALL: usize, const WRONG: usize>() {
 fn found_in_every_call<const WRONG: usize>() {
     found_in_messages::<WRONG>();
     found_in_lone_values::<WRONG>();
+    found::<LOAD, WRONG>();
 }
 
 fn found_in_messages<const WRONG: usize>() {
@@ -233,9 +255,12 @@ fn differential_test_finds_wrong_places() {
     found_in_every_call::<TOO_LONG_BEHIND_THE_LENGTH>();
     found_in_every_call::<ELEMENT_AT_ITS_ARRAY>();
     found_in_messages::<COUNTED_FROM_THE_VALUE>();
+    found::<LOAD, COUNTED_FROM_THE_VALUE>();
     found_in_lone_values::<LAST_BYTE_LEFT>();
+    found::<LOAD, LAST_BYTE_LEFT>();
     found_in_every_call::<LAST_BAD_BOOLEAN>();
     found_in_messages::<TYPE_AT_THE_START>();
+    found::<LOAD, TYPE_AT_THE_START>();
     found::<CREATE, GIVEN_TYPE_WITH_A_PLACE>();
     found::<ENCODE, GIVEN_TYPE_WITH_A_PLACE>();
     found::<DECODE, GIVEN_TYPE_WITH_A_PLACE>();
@@ -295,6 +320,19 @@ fn acceptance_cases_find_wrong_places() {
     cases_find::<DELIVER, ELEMENT_AT_ITS_ARRAY>();
     cases_find::<DELIVER, COUNTED_FROM_THE_VALUE>();
     cases_find::<DELIVER, LAST_BAD_BOOLEAN>();
+}
+
+#[test]
+fn acceptance_cases_find_wrong_places_in_saved_tables() {
+    cases_find::<LOAD, TEXT_AT_ITS_LENGTH>();
+    cases_find::<LOAD, TEXT_AT_ITS_BAD_BYTE>();
+    cases_find::<LOAD, TOO_LONG_BEHIND_THE_LENGTH>();
+    cases_find::<LOAD, ELEMENT_AT_ITS_ARRAY>();
+    cases_find::<LOAD, COUNTED_FROM_THE_VALUE>();
+    cases_find::<LOAD, LAST_BYTE_LEFT>();
+    cases_find::<LOAD, LAST_BAD_BOOLEAN>();
+    cases_find::<LOAD, TYPE_AT_THE_START>();
+    cases_find::<LOAD, MISSING_FIELD_WITH_A_PLACE>();
 }
 
 #[test]

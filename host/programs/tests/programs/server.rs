@@ -486,6 +486,9 @@ fn notices_of_ignored_messages_are_dropped_and_counted() {
         writer.send_bytes(&[&[KEEP_ALIVE], &ignored[..], &applied].concat());
         reader.expect(id, number);
     }
+    // What a delivery has for the clients is sent before its notices wait. With this one sent, those of
+    // all before it do.
+    writer.create("last", Type::Boolean, &[0]);
     drop(not_taking);
     let (taken, dropped) = taken_and_dropped(&server);
     // Two of them say that the clients were opened.

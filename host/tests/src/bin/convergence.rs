@@ -56,8 +56,20 @@ fn run() -> Result<(), String> {
         made += 1;
     }
     let seconds = start.elapsed().as_secs_f64();
-    let Run { calls, done, delivered, hellos_delivered, compared } = all;
-    println!("  {made} runs of {calls} calls, {done} done, in {seconds:.1} s");
+    println!("  {made} runs of {} calls, {} done, in {seconds:.1} s", all.calls, all.done);
+    print(made, &all, &of_line_records);
+    if made < runs {
+        return Err(format!("only {made} of {runs} runs in time"));
+    }
+    if all.compared.clients == 0 {
+        return Err("no clean client".into());
+    }
+    if runs >= COVERING_RUNS { covers(made, &all, &of_line_records) } else { Ok(()) }
+}
+
+fn print(made: u64, all: &Run, of_line_records: &Compared) {
+    let Run { loads, entries_loaded, delivered, hellos_delivered, compared, .. } = all;
+    println!("  {loads} of them from a load, {entries_loaded} entries loaded");
     println!("  {delivered} messages in deliveries, {hellos_delivered} of them accepted hellos");
     println!(
         "  {} clients' copies equal at the end: {} messages, {} entries",
@@ -70,16 +82,20 @@ fn run() -> Result<(), String> {
         of_line_records.messages,
         of_line_records.entries
     );
-    if made < runs {
-        return Err(format!("only {made} of {runs} runs in time"));
+}
+
+/// Whether so many runs met what a run can meet.
+fn covers(made: u64, all: &Run, of_line_records: &Compared) -> Result<(), String> {
+    Err(if all.loads == 0 || all.loads as u64 == made || all.entries_loaded == 0 {
+        "no run from a fresh start, or none from a load"
+    } else if all.hellos_delivered == 0 {
+        "no accepted hello in a delivery"
+    } else if of_line_records.clients == 0 {
+        "no clean client of a line record"
+    } else {
+        return Ok(());
     }
-    if runs >= COVERING_RUNS && hellos_delivered == 0 {
-        return Err("no accepted hello in a delivery".into());
-    }
-    if compared.clients == 0 || runs >= COVERING_RUNS && of_line_records.clients == 0 {
-        return Err("no clean client".into());
-    }
-    Ok(())
+    .into())
 }
 
 fn main() -> ExitCode {

@@ -2,13 +2,14 @@
 //! they have to find. The programs `differential` and `convergence` go further.
 
 mod wrong_replay;
+mod wrong_saved;
 mod wrong_why;
 
 use nt2_sys::{
     Answer, Copied, DELIVERY_MESSAGES, Delivered, Fields, LentTable, Reason, Replayed, Scalar,
 };
 use nt2_tests::acceptance::{folder, run_file};
-use nt2_tests::convergence::{replayed, run};
+use nt2_tests::convergence::{Run, replayed, run};
 use nt2_tests::differential::{Bounds, compare};
 #[cfg(feature = "library")]
 use nt2_tests::implementation::Library as Tested;
@@ -30,9 +31,13 @@ fn differential() {
 
 #[test]
 fn convergence() {
+    let mut all = Run::default();
     for seed in 0..6 {
-        assert!(run::<Tested, Tested>(seed, 2000).unwrap().compared.clients > 0);
+        let run = run::<Tested, Tested>(seed, 2000).unwrap();
+        assert!(run.compared.clients > 0);
+        all.add(&run);
     }
+    assert!(all.loads == 3 && all.entries_loaded > 0);
 }
 
 #[test]
@@ -64,6 +69,7 @@ const EQUAL_AS_NUMBERS: usize = 16;
 const COUNT_NOT_COMPARED: usize = 17;
 const FIRST_ELEMENT_COMPARED: usize = 18;
 const WHY: usize = 19;
+const SAVED: usize = 20;
 
 /// The answer to a delivery with one fault.
 fn faulty_delivery<const FAULT: usize>(input: &[u8], room: usize, answer: Delivered) -> Delivered {
@@ -185,6 +191,20 @@ impl<const FAULT: usize> Implementation for Faulty<FAULT> {
             return wrong_why::why(fault, table, marks, connection, message);
         }
         Reference::why(table, marks, connection, message)
+    }
+
+    fn save(table: LentTable<'_>, out: &mut [u8]) -> Answer {
+        if FAULT == SAVED {
+            return wrong_saved::save(*SAVED_FAULT.lock().unwrap(), table, out);
+        }
+        Reference::save(table, out)
+    }
+
+    fn load(table: LentTable<'_>, marks: &mut [u8], saved: &[u8]) -> Answer {
+        if FAULT == SAVED {
+            return wrong_saved::load(*SAVED_FAULT.lock().unwrap(), table, marks, saved);
+        }
+        Reference::load(table, marks, saved)
     }
 
     fn create(
@@ -358,6 +378,28 @@ fn faults_of_reasons_are_found() {
         );
         assert_eq!(found(fault), (true, !in_no_case), "{fault:?}");
     }
+}
+
+/// The fault with which `Faulty<SAVED>` saves or loads.
+static SAVED_FAULT: Mutex<wrong_saved::Fault> = Mutex::new(wrong_saved::Fault::Nothing);
+
+/// By the differential test, and by the acceptance cases.
+#[test]
+fn faults_of_saved_tables_are_found() {
+    use wrong_saved::Fault;
+    let found = |fault| {
+        *SAVED_FAULT.lock().unwrap() = fault;
+        let cases = run_file::<Faulty<SAVED>>(&folder(), "saved.json").unwrap();
+        let compared = compare::<Reference, Faulty<SAVED>>(BOUNDS);
+        (compared.is_err(), !cases.failures.is_empty())
+    };
+    assert_eq!(found(Fault::Nothing), (false, false));
+    for &fault in Fault::ALL {
+        assert_eq!(found(fault), (true, true), "{fault:?}");
+    }
+    // A run that begins with a load finds one too.
+    *SAVED_FAULT.lock().unwrap() = Fault::LastNotStored;
+    assert!(run::<Faulty<SAVED>, Reference>(3, 2000).is_err());
 }
 
 #[test]
