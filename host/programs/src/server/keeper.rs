@@ -13,8 +13,8 @@ use std::time::{Duration, Instant};
 /// The pause after a table that could not be written.
 const WRITE_PAUSE: Duration = Duration::from_secs(2);
 
-/// Saves a table after its changes. A thread of its own writes the file, so that no call waits for the
-/// disk.
+/// Saves a table after its changes. A thread of its own writes the file, so that no call waits for
+/// the disk.
 pub struct Keeper {
     file: Arc<TableFile>,
     waiting: Arc<Waiting>,
@@ -33,17 +33,11 @@ struct Waiting {
 #[derive(Default)]
 struct State {
     /// The newest saved table, unless it is taken already.
-    newest: Option<Saved>,
+    newest: Option<Vec<u8>>,
     /// No newer one will come.
     is_last: bool,
-    /// How long it takes until one that is handed over is written, by the last ones.
+    /// How long writing takes, by the last ones.
     took: Duration,
-}
-
-#[derive(Clone, Debug, PartialEq)]
-struct Saved {
-    bytes: Vec<u8>,
-    handed_over: Instant,
 }
 
 impl Keeper {
@@ -56,8 +50,8 @@ impl Keeper {
         Ok(Keeper { file, waiting, thread, delay, due: None })
     }
 
-    /// The table has changed, or has no file yet. Where writing takes long, the delay is the shorter for
-    /// it, so that the file has the change after about the same time.
+    /// The table has changed, or has no file yet. Where writing takes long, the delay is the
+    /// shorter for it, so that the file has the change after about the same time.
     pub fn changed(&mut self) {
         let delay = || self.delay.saturating_sub(self.waiting.lock().took);
         self.due.get_or_insert_with(|| Instant::now() + delay());
@@ -71,10 +65,9 @@ impl Keeper {
     /// Hands the table over to be written. One that still waits for that is not written any more.
     pub fn save(&mut self, table: &ServerTable) {
         self.due = None;
-        let mut bytes = vec![0; LONGEST_SAVED];
-        let length = table.save(&mut bytes).expect("an owned table is sound").len();
-        bytes.truncate(length);
-        let saved = Saved { bytes, handed_over: Instant::now() };
+        let mut saved = vec![0; LONGEST_SAVED];
+        let length = table.save(&mut saved).expect("an owned table is sound").len();
+        saved.truncate(length);
         self.waiting.change(|state| state.newest = Some(saved));
     }
 
@@ -107,16 +100,17 @@ impl Drop for Keeper {
 }
 
 impl Waiting {
-    /// Writes each table, or the newest where several came, until there are no more. One that cannot be
-    /// written is tried again, unless a newer one has come.
+    /// Writes each table, or the newest where several came, until there are no more. One that
+    /// cannot be written is tried again, unless a newer one has come.
     fn write_to(&self, file: &TableFile, notices: &Notices) -> Result<(), Fault> {
         let mut failed_before = false;
         while let Some((saved, is_last)) = self.next() {
-            let (written, file) = (file.replace(&saved.bytes), file.path().to_path_buf());
+            let start = Instant::now();
+            let (written, file) = (file.replace(&saved), file.path().to_path_buf());
             let failed = written.is_err();
             match written {
                 Ok(()) => {
-                    self.note(saved.handed_over.elapsed());
+                    self.note(start.elapsed());
                     if failed_before {
                         notices.add(Notice::SavedAgain { file });
                     }
@@ -132,8 +126,9 @@ impl Waiting {
         Ok(())
     }
 
-    /// The newest table once there is one, and whether it is the last; none where no more will come.
-    fn next(&self) -> Option<(Saved, bool)> {
+    /// The newest table once there is one, and whether it is the last; none where no more will
+    /// come.
+    fn next(&self) -> Option<(Vec<u8>, bool)> {
         let idle = |state: &mut State| state.newest.is_none() && !state.is_last;
         let waited = self.changed.wait_while(self.lock(), idle);
         let mut state = waited.unwrap_or_else(PoisonError::into_inner);
@@ -142,14 +137,14 @@ impl Waiting {
     }
 
     /// Lets a table wait again after a pause, which the end cuts short.
-    fn put_back(&self, saved: Saved) {
+    fn put_back(&self, saved: Vec<u8>) {
         let goes_on = |state: &mut State| !state.is_last;
         let waited = self.changed.wait_timeout_while(self.lock(), WRITE_PAUSE, goes_on);
         let (mut state, _) = waited.unwrap_or_else(PoisonError::into_inner);
         state.newest.get_or_insert(saved);
     }
 
-    /// Notes how long the last one took. A long time is forgotten by halves.
+    /// Notes how long writing took. A long time is forgotten by halves.
     fn note(&self, took: Duration) {
         let mut state = self.lock();
         state.took = took.max(state.took / 2);
@@ -173,19 +168,18 @@ mod tests {
     #[test]
     fn newest_is_written_alone() {
         let waiting = Waiting::default();
-        let saved = |byte| Saved { bytes: vec![byte], handed_over: Instant::now() };
-        let [first, second, third] = [1, 2, 3].map(saved);
-        let hand_over = |saved: &Saved| waiting.change(|state| state.newest = Some(saved.clone()));
-        hand_over(&first);
-        hand_over(&second);
-        assert_eq!(waiting.next(), Some((second.clone(), false)));
-        hand_over(&third);
+        let hand_over = |byte| waiting.change(|state| state.newest = Some(vec![byte]));
+        hand_over(1);
+        hand_over(2);
+        assert_eq!(waiting.next(), Some((vec![2], false)));
+        hand_over(3);
         waiting.change(|state| state.is_last = true);
-        // One that could not be written gives way to a newer one, and comes again where there is none.
-        waiting.put_back(second);
-        assert_eq!(waiting.next(), Some((third.clone(), true)));
-        waiting.put_back(third.clone());
-        assert_eq!(waiting.next(), Some((third, true)));
+        // One that could not be written gives way to a newer one, and comes again where there is
+        // none.
+        waiting.put_back(vec![2]);
+        assert_eq!(waiting.next(), Some((vec![3], true)));
+        waiting.put_back(vec![3]);
+        assert_eq!(waiting.next(), Some((vec![3], true)));
         assert_eq!(waiting.next(), None);
     }
 

@@ -435,8 +435,8 @@ fn end_waits_for_clients_that_read_and_for_no_others() {
     writer.create("last", Type::Boolean, &[1]);
     let start = Instant::now();
     server.signal("INT");
-    // It still sends. If the server did not read that, the stream would be reset, and what is not read
-    // yet be lost.
+    // It still sends. If the server did not read that, the stream would be reset, and what is not
+    // read yet be lost.
     while start.elapsed() < Duration::from_millis(500) {
         reads_late.send(&Message::KeepAlive);
         thread::sleep(Duration::from_millis(1));

@@ -1,5 +1,5 @@
-//! The server program, killed at any moment under load: its file is whole, and has what clients had read
-//! a second before.
+//! The server program, killed at any moment under load: its file is whole, and has what clients had
+//! read a second before.
 
 use crate::kept::{entries_of, loaded};
 use crate::load::{Load, Turns, is_reached, turns};

@@ -132,8 +132,8 @@ fn writer_of(name: &[u8]) -> usize {
     usize::from(name[0] - b'0')
 }
 
-/// Makes the writer's entries where there are none, and then updates them until the stream ends. None
-/// where that is before all entries are made.
+/// Makes the writer's entries where there are none, and then updates them until the stream ends.
+/// None where that is before all entries are made.
 fn write(mut client: TestClient, writer: usize, read: &AtomicU64) -> Option<()> {
     let mut entries = Vec::new();
     for entry in 0..ENTRIES_EACH {
