@@ -70,8 +70,8 @@ pub struct Server {
 }
 
 impl Server {
-    /// Listens at an address and serves a table: the kept one, or else a fresh one that is not kept. Each
-    /// notice is handed over as it comes; if that takes long, some are dropped.
+    /// Listens at an address and serves a table: the kept one, or else a fresh one that is not
+    /// kept. Each notice is handed over as it comes; if that takes long, some are dropped.
     pub fn start(
         address: impl ToSocketAddrs,
         settings: Settings,
@@ -118,7 +118,8 @@ impl Server {
     }
 }
 
-/// Waits for a server's end, and for its last notices. Whoever does not take them does not stop the end.
+/// Waits for a server's end, and for its last notices. Whoever does not take them does not stop the
+/// end.
 fn wait(owner: JoinHandle<Result<(), Fault>>, notices: &Receiver<Infallible>) -> Result<(), Fault> {
     let ended = owner.join().unwrap_or(Err(Fault::Panicked));
     let _ = notices.recv_timeout(LAST_NOTICES);
@@ -131,8 +132,8 @@ pub struct Stopper {
 }
 
 impl Stopper {
-    /// No more is taken from the clients. What was taken is saved, and what waits for the clients is sent
-    /// to those that read.
+    /// No more is taken from the clients. What was taken is saved, and what waits for the clients
+    /// is sent to those that read.
     pub fn stop(&self) {
         // Without an owner the event is not needed.
         let _ = self.events.send(Event::Stop);

@@ -28,8 +28,8 @@ pub struct TableFile {
     folder: PathBuf,
     /// The new file, until it takes the name. One that a killed server has left is replaced.
     beside: PathBuf,
-    /// The lock ends with the program, however that ends. The file itself is replaced by each save, so
-    /// a lock of it would not last.
+    /// The lock ends with the program, however that ends. The file itself is replaced by each save,
+    /// so a lock of it would not last.
     _lock: File,
 }
 
@@ -71,8 +71,8 @@ impl TableFile {
         }
     }
 
-    /// Puts a saved table in the place of the one that the file has. Both are on the disk whole before
-    /// the name goes from one to the other.
+    /// Puts a saved table in the place of the one that the file has. Both are on the disk whole
+    /// before the name goes from one to the other.
     pub fn replace(&self, saved: &[u8]) -> io::Result<()> {
         match fs::remove_file(&self.beside) {
             Err(error) if error.kind() != ErrorKind::NotFound => return Err(error),

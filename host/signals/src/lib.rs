@@ -1,8 +1,8 @@
 //! The signals that ask a program to end, SIGTERM and SIGINT, as something that a thread waits for.
 //!
-//! The standard library knows no signals, so this declares what it needs of the C library. No handler
-//! is set: both signals are blocked in every thread, so they stay pending until they are waited for, and
-//! no code runs in the middle of other code.
+//! The standard library knows no signals, so this declares what it needs of the C library. No
+//! handler is set: both signals are blocked in every thread, so they stay pending until they are
+//! waited for, and no code runs in the middle of other code.
 
 #[cfg(not(all(target_os = "linux", any(target_arch = "x86_64", target_arch = "aarch64"))))]
 compile_error!("the numbers and the layout below are those of 64-bit Linux");

@@ -1,10 +1,11 @@
-//! Messages per second of a server program over the loopback: some clients send updates in bursts, and
-//! all others get each of them. With `--before` an earlier server takes its turn in every round, and with
-//! `--table` the server once more, with its table kept in that file, which is removed first.
+//! Messages per second of a server program over the loopback: some clients send updates in bursts,
+//! and all others get each of them. With `--before` an earlier server takes its turn in every
+//! round, and with `--table` the server once more, with its table kept in that file, which is
+//! removed first.
 //!
 //! Arguments: `--server PROGRAM` (else the nt2-server beside this program), `--before PROGRAM`,
-//! `--table FILE`, `--writers N`, `--readers N`, `--burst N` updates in one write, `--bursts N` of each writer,
-//! `--rounds N` (the fastest counts).
+//! `--table FILE`, `--writers N`, `--readers N`, `--burst N` updates in one write, `--bursts N` of
+//! each writer, `--rounds N` (the fastest counts).
 
 #![forbid(unsafe_code)]
 

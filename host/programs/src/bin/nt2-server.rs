@@ -1,13 +1,13 @@
 //! The table server over TCP. Its notices go to standard error.
 //!
-//! Arguments: `--table FILE`, the file in which the table is kept, else it is not kept; the address to
-//! listen at, else 127.0.0.1:1735.
+//! Arguments: `--table FILE`, the file in which the table is kept, else it is not kept; the address
+//! to listen at, else 127.0.0.1:1735.
 //!
-//! SIGTERM and SIGINT end it: the table is saved, and what waits for the clients is sent. A second one
-//! ends it at once.
+//! SIGTERM and SIGINT end it: the table is saved, and what waits for the clients is sent. A second
+//! one ends it at once.
 //!
-//! Exit status: 0 ended by a signal, 1 the file or the address cannot be used, or the table is not saved
-//! at the end, 2 usage.
+//! Exit status: 0 ended by a signal, 1 the file or the address cannot be used, or the table is not
+//! saved at the end, 2 usage.
 
 #![forbid(unsafe_code)]
 

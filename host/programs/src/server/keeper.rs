@@ -13,8 +13,8 @@ use std::time::{Duration, Instant};
 /// The pause after a table that could not be written.
 const WRITE_PAUSE: Duration = Duration::from_secs(2);
 
-/// Saves a table after its changes. A thread of its own writes the file, so that no call waits for the
-/// disk.
+/// Saves a table after its changes. A thread of its own writes the file, so that no call waits for
+/// the disk.
 pub struct Keeper {
     file: Arc<TableFile>,
     waiting: Arc<Waiting>,
@@ -24,32 +24,37 @@ pub struct Keeper {
     due: Option<Instant>,
 }
 
+#[derive(Default)]
 struct Waiting {
     state: Mutex<State>,
     changed: Condvar,
 }
 
+#[derive(Default)]
 struct State {
     /// The newest saved table, unless it is taken already.
     newest: Option<Vec<u8>>,
     /// No newer one will come.
     is_last: bool,
+    /// How long writing takes, by the last ones.
+    took: Duration,
 }
 
 impl Keeper {
     /// A change is saved after the delay.
     pub fn start(file: TableFile, delay: Duration, notices: Notices) -> io::Result<Self> {
-        let state = Mutex::new(State { newest: None, is_last: false });
-        let waiting = Arc::new(Waiting { state, changed: Condvar::new() });
+        let waiting = Arc::new(Waiting::default());
         let file = Arc::new(file);
         let (written, taken) = (Arc::clone(&file), Arc::clone(&waiting));
         let thread = Some(spawn("keeper", move || taken.write_to(&written, &notices))?);
         Ok(Keeper { file, waiting, thread, delay, due: None })
     }
 
-    /// The table has changed, or has no file yet.
+    /// The table has changed, or has no file yet. Where writing takes long, the delay is the
+    /// shorter for it, so that the file has the change after about the same time.
     pub fn changed(&mut self) {
-        self.due.get_or_insert_with(|| Instant::now() + self.delay);
+        let delay = || self.delay.saturating_sub(self.waiting.lock().took);
+        self.due.get_or_insert_with(|| Instant::now() + delay());
     }
 
     /// The time until the table is to be saved, if it is.
@@ -95,16 +100,21 @@ impl Drop for Keeper {
 }
 
 impl Waiting {
-    /// Writes each table, or the newest where several came, until there are no more. One that cannot be
-    /// written is tried again, unless a newer one has come.
+    /// Writes each table, or the newest where several came, until there are no more. One that
+    /// cannot be written is tried again, unless a newer one has come.
     fn write_to(&self, file: &TableFile, notices: &Notices) -> Result<(), Fault> {
         let mut failed_before = false;
         while let Some((saved, is_last)) = self.next() {
+            let start = Instant::now();
             let (written, file) = (file.replace(&saved), file.path().to_path_buf());
             let failed = written.is_err();
             match written {
-                Ok(()) if failed_before => notices.add(Notice::SavedAgain { file }),
-                Ok(()) => {}
+                Ok(()) => {
+                    self.note(start.elapsed());
+                    if failed_before {
+                        notices.add(Notice::SavedAgain { file });
+                    }
+                }
                 Err(error) if is_last => return Err(Fault::NotSaved { file, error }),
                 Err(error) => {
                     notices.add(Notice::NotSaved { file, error });
@@ -116,7 +126,8 @@ impl Waiting {
         Ok(())
     }
 
-    /// The newest table once there is one, and whether it is the last; none where no more will come.
+    /// The newest table once there is one, and whether it is the last; none where no more will
+    /// come.
     fn next(&self) -> Option<(Vec<u8>, bool)> {
         let idle = |state: &mut State| state.newest.is_none() && !state.is_last;
         let waited = self.changed.wait_while(self.lock(), idle);
@@ -131,6 +142,12 @@ impl Waiting {
         let waited = self.changed.wait_timeout_while(self.lock(), WRITE_PAUSE, goes_on);
         let (mut state, _) = waited.unwrap_or_else(PoisonError::into_inner);
         state.newest.get_or_insert(saved);
+    }
+
+    /// Notes how long writing took. A long time is forgotten by halves.
+    fn note(&self, took: Duration) {
+        let mut state = self.lock();
+        state.took = took.max(state.took / 2);
     }
 
     fn change(&self, change: impl FnOnce(&mut State)) {
@@ -150,19 +167,29 @@ mod tests {
 
     #[test]
     fn newest_is_written_alone() {
-        let state = Mutex::new(State { newest: None, is_last: false });
-        let waiting = Waiting { state, changed: Condvar::new() };
+        let waiting = Waiting::default();
         let hand_over = |byte| waiting.change(|state| state.newest = Some(vec![byte]));
         hand_over(1);
         hand_over(2);
         assert_eq!(waiting.next(), Some((vec![2], false)));
         hand_over(3);
         waiting.change(|state| state.is_last = true);
-        // One that could not be written gives way to a newer one, and comes again where there is none.
+        // One that could not be written gives way to a newer one, and comes again where there is
+        // none.
         waiting.put_back(vec![2]);
         assert_eq!(waiting.next(), Some((vec![3], true)));
         waiting.put_back(vec![3]);
         assert_eq!(waiting.next(), Some((vec![3], true)));
         assert_eq!(waiting.next(), None);
+    }
+
+    #[test]
+    fn long_time_is_forgotten_by_halves() {
+        let waiting = Waiting::default();
+        let took = |milliseconds| {
+            waiting.note(Duration::from_millis(milliseconds));
+            waiting.lock().took.as_millis()
+        };
+        assert_eq!([5, 400, 20, 150, 10, 60].map(took), [5, 400, 200, 150, 75, 60]);
     }
 }

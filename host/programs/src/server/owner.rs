@@ -18,7 +18,8 @@ use std::sync::mpsc::{Receiver, RecvTimeoutError, SyncSender};
 use std::sync::{Arc, Weak};
 use std::time::{Duration, Instant};
 
-/// At most so many closed connections still have their stream, to send what waits. At the end all have.
+/// At most so many closed connections still have their stream, to send what waits. At the end all
+/// have.
 pub const MOST_LINGERING: usize = 16;
 
 /// Whether all streams have ended is looked at so often.
@@ -120,8 +121,8 @@ impl Owner {
         events.recv().ok()
     }
 
-    /// Waits until what waits for the clients is sent and they have closed their streams, or their time
-    /// is over. What still arrives is dropped.
+    /// Waits until what waits for the clients is sent and they have closed their streams, or their
+    /// time is over. What still arrives is dropped.
     fn wait_for_streams(&self, events: &Receiver<Event>) {
         let end = Instant::now() + self.settings.linger + 2 * WRITE_TRY;
         while self.lingering.iter().any(|link| link.strong_count() > 0) && Instant::now() < end {
@@ -262,7 +263,8 @@ impl Owner {
         self.notices.add(Notice::Left { connection, reason });
     }
 
-    /// Lets a closed connection send what waits. Where more do than the bound, the oldest is abandoned.
+    /// Lets a closed connection send what waits. Where more do than the bound, the oldest is
+    /// abandoned.
     fn linger(&mut self, link: &Arc<Link>, most: usize) {
         link.finish();
         self.lingering.retain(|link| link.strong_count() > 0);
@@ -275,8 +277,8 @@ impl Owner {
     }
 }
 
-/// Whether a delivery has applied an update. All that was done is written, whether or not there is a
-/// client for it, and the answer to a hello does not begin with an update.
+/// Whether a delivery has applied an update. All that was done is written, whether or not there is
+/// a client for it, and the answer to a hello does not begin with an update.
 fn has_update(delivery: Delivery<'_>) -> bool {
     delivery.sent().any(|sent| sent.bytes.first() == Some(&UPDATE))
 }

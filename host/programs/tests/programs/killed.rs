@@ -1,9 +1,9 @@
-//! The server program, killed at any moment under load: its file is whole, and has what clients had read
-//! a second before.
+//! The server program, killed at any moment under load: its file is whole, and has what clients had
+//! read a second before.
 
 use crate::kept::{entries_of, loaded};
-use crate::load::{Load, Turns, turns};
-use crate::program::{ServerProgram, TestFolder};
+use crate::load::{Load, Turns, is_reached, turns};
+use crate::program::{DiskWatch, ServerProgram, TestFolder};
 use std::env;
 use std::fs;
 use std::os::unix::fs::MetadataExt;
@@ -16,10 +16,13 @@ const KILLS: u64 = 33;
 const SERVERS: u64 = 3;
 /// A server is killed within so many milliseconds.
 const MOST_TIME: u64 = 1800;
-/// What was read so long before the kill is in the file.
+/// What was read so long before the kill is in the file, if the disk does not stop meanwhile.
 const KEPT_AFTER: Duration = Duration::from_secs(1);
 /// A change that comes now is being saved by then.
 const NEXT_SAVE: Duration = Duration::from_millis(700);
+
+/// Whether a save has begun is looked at so often.
+const PAUSE: Duration = Duration::from_micros(50);
 
 /// A number that the environment gives.
 fn given(name: &str) -> Option<u64> {
@@ -47,7 +50,8 @@ struct Series {
     with_news: u64,
     /// Kills in the middle of a save, which left the new file beside.
     in_a_save: u64,
-    turns: u64,
+    /// How long before the kill the first change that was lost had been read, at most.
+    most_lost: Duration,
 }
 
 impl Series {
@@ -62,19 +66,18 @@ impl Series {
         thread::sleep(time);
         let (waits, saves) =
             (Instant::now(), || identity(&new).is_some_and(|new| Some(new) != left_before));
-        while in_a_save && !saves() && waits.elapsed() < NEXT_SAVE {}
+        while in_a_save && !saves() && waits.elapsed() < NEXT_SAVE {
+            thread::sleep(PAUSE);
+        }
         let killed = Instant::now();
         server.kill();
 
         let (reading, kept) = (load.ended(), kept_turns(path));
-        let read = reading.turns_at(killed - KEPT_AFTER);
-        for earlier in [&at_start[..], read] {
-            assert!(kept.len() >= earlier.len(), "entries are lost");
-            assert!(kept.iter().zip(earlier).all(|(kept, earlier)| kept >= earlier));
-        }
-        self.with_news += u64::from(read.iter().sum::<u64>() > at_start.iter().sum());
+        assert!(is_reached(&at_start, &kept), "what was loaded is lost");
+        let lost = reading.beyond(&kept).map_or(Duration::ZERO, |moment| killed - moment);
+        self.most_lost = self.most_lost.max(lost);
+        self.with_news += u64::from(!is_reached(reading.turns_at(killed - KEPT_AFTER), &at_start));
         self.in_a_save += u64::from(saves());
-        self.turns = kept.iter().sum();
     }
 }
 
@@ -96,14 +99,18 @@ fn killed_at_any_moment() {
     let seed = given("SEED").unwrap_or_else(clock);
     let kills = given("KILLS").unwrap_or(KILLS).div_ceil(SERVERS);
     println!("SEED={seed}");
+    let folder = TestFolder::new("killed_at_any_moment");
+    let disk = DiskWatch::start(&folder);
     let servers: Vec<_> = (0..SERVERS)
         .map(|server| thread::spawn(move || series(seed.wrapping_add(server), server, kills)))
         .collect();
     // Each of them ends its server, also where another one has failed.
     let all: Vec<_> = servers.into_iter().map(JoinHandle::join).collect();
+    let longest = disk.longest();
     for ended in all {
-        let Series { with_news, in_a_save, turns } = ended.unwrap();
-        println!("{kills} kills, {with_news} with news, {in_a_save} in a save, {turns} turns");
-        assert!(with_news > 0);
+        let Series { with_news, in_a_save, most_lost } = ended.unwrap();
+        println!("{kills} kills, {with_news} with news, {in_a_save} in a save");
+        println!("lost: read {most_lost:?} before; the disk took {longest:?}");
+        assert!(with_news > 0 && most_lost < KEPT_AFTER + longest);
     }
 }

@@ -13,7 +13,7 @@ const WRITERS: usize = 3;
 /// Entries of each of them.
 const ENTRIES_EACH: usize = 5;
 /// A writer is at most so many turns ahead of what the reader has read.
-const MOST_AHEAD: u64 = 40;
+const MOST_AHEAD: u64 = 3;
 const PAUSE: Duration = Duration::from_micros(100);
 /// What was read is noted so often.
 const NOTE: Duration = Duration::from_millis(5);
@@ -104,11 +104,22 @@ impl Reading {
         Reading { copy: client.copy, is_whole, noted }
     }
 
+    /// The moment at which more than these turns had been read, if that was so.
+    pub fn beyond(&self, turns: &[u64]) -> Option<Instant> {
+        let later = |(_, read): &&(Instant, Turns)| !is_reached(read, turns);
+        self.noted.iter().find(later).map(|(moment, _)| *moment)
+    }
+
     /// The turns that had been read at a moment.
     pub fn turns_at(&self, moment: Instant) -> &[u64] {
         let noted = self.noted.iter().rev().find(|(noted, _)| *noted <= moment);
         noted.map_or(&[], |(_, turns)| turns)
     }
+}
+
+/// Whether all entries are there, with turns that are the same or later.
+pub fn is_reached(turns: &[u64], later: &[u64]) -> bool {
+    turns.len() <= later.len() && turns.iter().zip(later).all(|(turn, later)| turn <= later)
 }
 
 /// The name of a writer's entry.
@@ -121,8 +132,8 @@ fn writer_of(name: &[u8]) -> usize {
     usize::from(name[0] - b'0')
 }
 
-/// Makes the writer's entries where there are none, and then updates them until the stream ends. None
-/// where that is before all entries are made.
+/// Makes the writer's entries where there are none, and then updates them until the stream ends.
+/// None where that is before all entries are made.
 fn write(mut client: TestClient, writer: usize, read: &AtomicU64) -> Option<()> {
     let mut entries = Vec::new();
     for entry in 0..ENTRIES_EACH {

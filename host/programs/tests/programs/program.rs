@@ -1,14 +1,19 @@
 //! The server program at work, and a folder for its files.
 
 use crate::support::{ANY_PORT, TIMEOUT, TestClient};
-use std::fs::{self, DirEntry};
-use std::io::{self, BufRead, BufReader, Read};
+use std::fs::{self, DirEntry, File};
+use std::io::{self, BufRead, BufReader, Read, Write};
 use std::net::SocketAddr;
 use std::path::{Path, PathBuf};
 use std::process::{Child, Command, Stdio};
+use std::sync::Arc;
+use std::sync::atomic::{AtomicBool, Ordering};
 use std::sync::mpsc::{Receiver, channel};
-use std::thread;
+use std::thread::{self, JoinHandle};
 use std::time::{Duration, Instant};
+
+/// A disk is tried so often.
+const WATCH_PAUSE: Duration = Duration::from_millis(20);
 
 const SERVER_PROGRAM: &str = env!("CARGO_BIN_EXE_nt2-server");
 
@@ -152,5 +157,39 @@ impl TestFolder {
 impl Drop for TestFolder {
     fn drop(&mut self) {
         let _ = fs::remove_dir_all(&self.0);
+    }
+}
+
+/// How long the disk takes for a new file. A disk that many use may stop for a while.
+pub struct DiskWatch {
+    ends: Arc<AtomicBool>,
+    thread: JoinHandle<Duration>,
+}
+
+impl DiskWatch {
+    /// Writes a file in the folder again and again.
+    pub fn start(folder: &TestFolder) -> Self {
+        let (path, ends) = (folder.path("watch"), Arc::new(AtomicBool::new(false)));
+        let ended = Arc::clone(&ends);
+        let thread = thread::spawn(move || {
+            let mut longest = Duration::ZERO;
+            while !ended.load(Ordering::Relaxed) {
+                let start = Instant::now();
+                let mut file = File::create(&path).unwrap();
+                file.write_all(&[0]).unwrap();
+                file.sync_all().unwrap();
+                longest = longest.max(start.elapsed());
+                fs::remove_file(&path).unwrap();
+                thread::sleep(WATCH_PAUSE);
+            }
+            longest
+        });
+        DiskWatch { ends, thread }
+    }
+
+    /// The longest time so far.
+    pub fn longest(self) -> Duration {
+        self.ends.store(true, Ordering::Relaxed);
+        self.thread.join().unwrap()
     }
 }

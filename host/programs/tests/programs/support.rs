@@ -154,8 +154,8 @@ impl TestClient {
         self.next_or_end().expect("the stream ended")
     }
 
-    /// Takes the next message into the copy; none at the end of the stream. Bytes of a message that is
-    /// cut there are held.
+    /// Takes the next message into the copy; none at the end of the stream. Bytes of a message that
+    /// is cut there are held.
     pub fn next_or_end(&mut self) -> Option<Copied> {
         loop {
             match self.copy.receive(&self.held) {
@@ -230,8 +230,8 @@ impl TestClient {
         while self.read() {}
     }
 
-    /// Reads until the stream ends on a thread of its own, which looks at nothing, and says then that it
-    /// has ended.
+    /// Reads until the stream ends on a thread of its own, which looks at nothing, and says then
+    /// that it has ended.
     pub fn discard_aside(&self, ended: Arc<AtomicBool>) -> JoinHandle<()> {
         let mut aside = TestClient::on(self.stream.try_clone().unwrap());
         thread::spawn(move || {
