@@ -37,7 +37,7 @@ const ACCEPT_PAUSE: Duration = Duration::from_millis(100);
 /// What a server's times are if nothing else is said.
 const LINGER: Duration = Duration::from_secs(2);
 const IDLE_LIMIT: Duration = Duration::from_secs(30);
-const SAVE_DELAY: Duration = Duration::from_millis(500);
+const SAVE_DELAY: Duration = Duration::from_millis(250);
 /// At the server's end notices that wait have this long to be taken.
 const LAST_NOTICES: Duration = Duration::from_secs(1);
 

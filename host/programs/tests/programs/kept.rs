@@ -284,8 +284,8 @@ fn nothing_is_written_while_nothing_changes() {
 }
 
 #[test]
-fn changes_of_half_a_second_are_saved_together() {
-    let folder = TestFolder::new("changes_of_half_a_second_are_saved_together");
+fn changes_of_a_quarter_second_are_saved_together() {
+    let folder = TestFolder::new("changes_of_a_quarter_second_are_saved_together");
     let path = folder.path("table");
     let server = start_with(&path);
     let mut client = server.greeted();
@@ -298,8 +298,8 @@ fn changes_of_half_a_second_are_saved_together() {
         files.extend(fs::metadata(&path).map(|found| (found.ino(), found.mtime_nsec())));
     }
     files.dedup();
-    // Six, and those at the start and the end of the time.
-    assert!((3..=8).contains(&files.len()), "{}", files.len());
+    // Twelve, and those at the start and the end of the time; fewer where the disk is slow.
+    assert!((3..=14).contains(&files.len()), "{}", files.len());
 }
 
 #[test]
