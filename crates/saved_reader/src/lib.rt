@@ -22,8 +22,8 @@ ghost use lib.ListN.{length};
 ghost use Rattle.value.specs.Value.{maxValueSize};
 ghost use Rattle.message.specs.Layout.{maxNameLength};
 ghost use Rattle.table.specs.Table.{maxEntries};
-ghost use Rattle.saved.specs.Reading.{parseOpening, nameLengthIn, typeIn, valueLengthIn, allZero, parseFilling, parseNameIn, parseUpToType};
-ghost use Rattle.saved.specs.Reading.{parseValueIn, parseFromType, parseRecord, parseCount};
+ghost use Rattle.saved.specs.Reading.{parseOpening, nameLengthIn, typeIn, valueLengthIn, allZero, parseFilling, parseNameIn};
+ghost use Rattle.saved.specs.Reading.{parseUpToType, parseValueIn, parseFromType, parseRecord, parseCount};
 
 // How a record opens: its kind, and a byte that is at most so much.
 fn read_opening(s: &[u8], kind: u8, most: usize) -> Parsed

@@ -128,8 +128,8 @@ pub fn next_owner(owner: u8, i: usize) -> u8
     SEVERAL
 }
 
-// Whether the names of so many entries all differ: none is held by an entry before it. `owners` has each fingerprint's owner so far, and may
-// hold anything at first.
+// Whether the names of so many entries all differ: none is held by an entry before it. `owners` has each fingerprint's owner so far, 0
+// where it has none, and may hold anything at first.
 fn all_differ(heads: &[u16], bytes: &[u8], count: usize, owners: &mut [u8]) -> bool
     requires names { ⌜ (count ≤ several) × Named count (now heads) (now bytes) ⌝ }
     requires owners { ⌜ fingerprints ≤ length (now owners) ⌝ }
