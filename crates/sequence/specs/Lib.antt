@@ -1,2 +1,3 @@
 pub mod SequenceNumber
 pub mod Comparisons
+pub mod Rfc1982
