@@ -1,5 +1,5 @@
--- Of a received number that is less only the standard's first case can hold, of one that is more only the second. What is left of that
--- case is met exactly where the distance is less than the half range.
+-- Where i1 < i2 only the standard's first case can hold, where i1 > i2 only the second, and where they are equal neither. What is left of a
+-- case holds exactly where the distance is less than the half range.
 use Prim.Native.Nat.{ℕ, _-_, _<_, _≤_}
 use mathlib.Core.Bool.{Bool, true, false, or-false}
 use mathlib.Core.Logic.{_⊎_, inl, inr, ⊎-elim}

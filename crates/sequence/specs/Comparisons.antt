@@ -1,4 +1,5 @@
--- The marked comparisons P1 to P10, "proved together as one table of comparisons (stored, received, applied?)", and comparisons that look right.
+-- The marked comparisons P1 to P10, "proved together as one table of comparisons (stored, received, applied?)",
+-- and comparisons that look right.
 use Prim.Native.Nat.{ℕ}
 use mathlib.Core.Bool.{Bool, true, false, not}
 use mathlib.Core.List.{List, [], _∷_, map}

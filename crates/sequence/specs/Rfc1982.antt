@@ -15,7 +15,7 @@ gtb m n = ltb n m
 -- "s1 is said to be greater than s2 if, and only if, s1 is not equal to s2, and
 --      (i1 < i2 and i2 - i1 > 2^(SERIAL_BITS - 1)) or
 --      (i1 > i2 and i1 - i2 < 2^(SERIAL_BITS - 1))"
--- In both cases s1 is not equal to s2.
+-- Each of the two cases says that s1 is not equal to s2.
 unfoldable pub greaterThan : (i1 i2 : ℕ) → Bool
 greaterThan i1 i2 =
     (ltb i1 i2 && gtb (i2 - i1) (2 ^ (serialBits - 1)))

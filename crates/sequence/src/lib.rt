@@ -35,17 +35,22 @@ impl SequenceNumber {
         wrapping_sub_u16(got, stored)
     }
 
-    // Whether the received number is strictly greater than this stored one, as RFC 1982, 3.2, has it. s1 is the received number and
-    // s2 the stored one, i1 and i2 are their values, HALF is 2^(SERIAL_BITS - 1):
+    // Whether the received number is strictly greater than this stored one, as RFC 1982, 3.2, has it. s1 is the received number and s2
+    // the stored one, i1 and i2 are their values, SERIAL_BITS is 16 and HALF is 2^(SERIAL_BITS - 1):
     // "s1 is said to be greater than s2 if, and only if, s1 is not equal to s2, and
     //      (i1 < i2 and i2 - i1 > 2^(SERIAL_BITS - 1)) or
     //      (i1 > i2 and i1 - i2 < 2^(SERIAL_BITS - 1))"
-    // In both cases s1 is not equal to s2.
     pub fn is_passed_by(self, received: SequenceNumber) -> bool
         ensures { λ r. ⌜ r ≡ passedBy (self .0) (received .0) ⌝ }
     {
         let i1 = received.0;
         let i2 = self.0;
-        (i1 < i2 && i2 - i1 > Self::HALF) || (i1 > i2 && i1 - i2 < Self::HALF)
+        if i1 < i2 {
+            return i2 - i1 > Self::HALF;
+        }
+        if i1 > i2 {
+            return i1 - i2 < Self::HALF;
+        }
+        false
     }
 }
