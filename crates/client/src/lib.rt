@@ -1,4 +1,5 @@
 // The client half: a copy of the server's table, kept from the server's messages. A call judges soundness, judges, and performs.
+#![tactic(auto)]
 ghost use Rattle.std.specs.Prelude.{◌≡◌, true, ℕ, ◌+◌, ◌≤◌, length};
 ghost use Rattle.field.specs.Answer.{unsound};
 ghost use Rattle.value.specs.Value.{max_value_size};
@@ -105,7 +106,7 @@ pub enum CopyDecision {
 fn judge_assignment(heads: &[u16], bytes: &[u8], count: u16, m: &[u8]) -> CopyDecision
     requires { sound_table max_entries (lent heads bytes count) ≡ true }
     ensures { DecidesCopy count m.now result
-        (judge_copy_assignment max_entries (entries_of (lent heads.entry bytes.entry count)) m.now
+        (judge_copy_assignment max_entries (entries_of (lent heads.now bytes.now count)) m.now
         (parse_assignment (id_allowed (AllowedId.Only count)) m.now)) }
 {
     match message::read_assignment(m, AllowedId::Only(count)) {
@@ -140,7 +141,7 @@ fn judge_update(heads: &[u16], bytes: &[u8], count: u16, m: &[u8]) -> CopyDecisi
     requires { sound_table max_entries (lent heads bytes count) ≡ true }
     ensures { DecidesCopy count m.now result
         (judge_copy_update m.now
-        (parse_held_update (entries_of (lent heads.entry bytes.entry count)) m.now)) }
+        (parse_held_update (entries_of (lent heads.now bytes.now count)) m.now)) }
 {
     match table::read_held_update(heads, bytes, count, m) {
         UpdateRead::Refused(fault) => CopyDecision::Refuse(fault),
@@ -173,7 +174,7 @@ fn judge_unsupported(m: &[u8]) -> CopyDecision
 fn judge_copy(heads: &[u16], bytes: &[u8], count: u16, m: &[u8]) -> CopyDecision
     requires { sound_table max_entries (lent heads bytes count) ≡ true }
     ensures { DecidesCopy count m.now result
-        (judge_copy max_entries (entries_of (lent heads.entry bytes.entry count)) m.now) }
+        (judge_copy max_entries (entries_of (lent heads.now bytes.now count)) m.now) }
 {
     let Octet::There(kind) = reader::octet_at(m, 0) else {
         return CopyDecision::Refuse(fault_at(INCOMPLETE, 0));
@@ -216,9 +217,9 @@ fn store_new(
 )
     requires memory { Holds (count.old + 1) heads.old bytes.old × (count.old + 1 ≤ max_entries) }
     requires lengths { (length name.now ≤ max_name_length) × (length value.now ≤ max_value_size) }
-    ensures { lent heads.exit bytes.exit count.new
-        ≡ store_entry (lent heads.entry bytes.entry count.old)
-        (lent_entry name.entry type_code number value.entry) }
+    ensures { lent heads.new bytes.new count.new
+        ≡ store_entry (lent heads.old bytes.old count.old)
+        (lent_entry name.now type_code number value.now) }
 {
     let id = *count;
     table::store_entry(
@@ -243,8 +244,8 @@ fn perform(
 ) -> Copied
     requires sound { sound_table max_entries (lent heads bytes count.old) ≡ true }
     requires performable { Copyable count.old m.now decision }
-    ensures { copied result (lent heads.exit bytes.exit count.new)
-        ≡ execute_copy_with_place (lent heads.entry bytes.entry count.old) (copy_verdict_of m.now decision) }
+    ensures { copied result (lent heads.new bytes.new count.new)
+        ≡ execute_copy_with_place (lent heads.old bytes.old count.old) (copy_verdict_of m.now decision) }
 {
     match decision {
         CopyDecision::Refuse(fault) => refused(fault),
@@ -291,8 +292,8 @@ fn perform(
 
 // One message from the server.
 pub fn copy_receive(heads: &mut [u16], bytes: &mut [u8], count: &mut u16, m: &[u8]) -> Copied
-    ensures { copied result (lent heads.exit bytes.exit count.new)
-        ≡ copy_with_place max_entries (lent heads.entry bytes.entry count.old) m.now }
+    ensures { copied result (lent heads.new bytes.new count.new)
+        ≡ copy_with_place max_entries (lent heads.old bytes.old count.old) m.now }
 {
     if !soundness::table_is_sound(heads, bytes, *count) {
         return unsound();

@@ -1,4 +1,5 @@
 // A whole delivery at once: the messages of one connection, judged in order. The table is judged once.
+#![tactic(auto)]
 ghost use Rattle.std.specs.Prelude.{◌≡◌};
 ghost use Rattle.table.specs.Table.{max_entries};
 ghost use Rattle.protocol.specs.Kept.{SoundMemory};
@@ -73,8 +74,8 @@ fn deliver_messages(
     out: &mut [u8],
 ) -> Delivered
     requires { SoundMemory max_entries (lent_server heads bytes count.old marks) }
-    ensures { delivered result (lent_server heads.exit bytes.exit count.new marks.exit) out.new
-        ≡ deliver_at_most max_messages max_entries (lent_server heads.entry bytes.entry count.old marks.entry)
+    ensures { delivered result (lent_server heads.new bytes.new count.new marks.new) out.new
+        ≡ deliver_at_most max_messages max_entries (lent_server heads.old bytes.old count.old marks.old)
         c input.now out.old }
 {
     let mut messages = 0;
@@ -113,8 +114,8 @@ pub fn deliver(
     input: &[u8],
     out: &mut [u8],
 ) -> Delivered
-    ensures { delivered result (lent_server heads.exit bytes.exit count.new marks.exit) out.new
-        ≡ deliver max_entries (lent_server heads.entry bytes.entry count.old marks.entry)
+    ensures { delivered result (lent_server heads.new bytes.new count.new marks.new) out.new
+        ≡ deliver max_entries (lent_server heads.old bytes.old count.old marks.old)
         c input.now out.old }
 {
     if !server::is_sound(heads, bytes, *count, marks) {

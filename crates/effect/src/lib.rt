@@ -1,4 +1,5 @@
 // What a call answers and changes, without what it sends: for calls that are lent room enough, and whose output nobody reads.
+#![tactic(auto)]
 ghost use Rattle.std.specs.Prelude.{◌≡◌, true, List, ℕ, ◌≤◌, length};
 ghost use Rattle.table.specs.Table.{TableMemory, lent, max_entries};
 ghost use Rattle.soundness.specs.Sound.{sound_table, sound_marks, connections};
@@ -36,8 +37,8 @@ pub fn answers(number: u8, taken: usize) -> Outcome
 pub fn open(marks: &mut [u8], c: usize) -> u8
     requires { sound_marks marks.old ≡ true }
     ensures { (table : TableMemory) → sound_table max_entries table ≡ true →
-        record { number = result; taken = 0; memory = beside_marks table marks.exit }
-        ≡ effect_of (call_step max_entries (beside_marks table marks.entry) (without_output (open_connection c))) }
+        record { number = result; taken = 0; memory = beside_marks table marks.new }
+        ≡ effect_of (call_step max_entries (beside_marks table marks.old) (without_output (open_connection c))) }
 {
     let decision = judge::judge_open(marks, c);
     store::perform_mark(marks, c, decision).number
@@ -47,8 +48,8 @@ pub fn open(marks: &mut [u8], c: usize) -> u8
 pub fn leave(marks: &mut [u8], c: usize) -> u8
     requires { sound_marks marks.old ≡ true }
     ensures { (table : TableMemory) → sound_table max_entries table ≡ true →
-        record { number = result; taken = 0; memory = beside_marks table marks.exit }
-        ≡ effect_of (call_step max_entries (beside_marks table marks.entry) (without_output (leave c))) }
+        record { number = result; taken = 0; memory = beside_marks table marks.new }
+        ≡ effect_of (call_step max_entries (beside_marks table marks.old) (without_output (leave c))) }
 {
     let decision = judge::judge_leave(marks, c);
     store::perform_mark(marks, c, decision).number
@@ -69,8 +70,8 @@ fn apply(
     requires sound { sound_table max_entries (lent heads bytes count.old) ≡ true }
     requires marks { connections ≤ length marks.old }
     requires performable { Performable count.old c m.now decision }
-    ensures { effected result (lent_server heads.exit bytes.exit count.new marks.exit)
-        ≡ effect_of (execute (lent_server heads.entry bytes.entry count.old marks.entry) (longest_output max_entries)
+    ensures { effected result (lent_server heads.new bytes.new count.new marks.new)
+        ≡ effect_of (execute (lent_server heads.old bytes.old count.old marks.old) (longest_output max_entries)
         (verdict_of c m.now decision)) }
 {
     match decision {
@@ -124,8 +125,8 @@ pub fn receive(
     m: &[u8],
 ) -> Outcome
     requires { SoundMemory max_entries (lent_server heads bytes count.old marks) }
-    ensures { effected result (lent_server heads.exit bytes.exit count.new marks.exit)
-        ≡ effect_of (call_step max_entries (lent_server heads.entry bytes.entry count.old marks.entry)
+    ensures { effected result (lent_server heads.new bytes.new count.new marks.new)
+        ≡ effect_of (call_step max_entries (lent_server heads.old bytes.old count.old marks.old)
         (with_output max_entries (client_message c m.now))) }
 {
     let decision = judge::judge_client_message(heads, bytes, *count, marks, c, m);
@@ -145,8 +146,8 @@ pub fn create(
 ) -> u8
     requires { sound_table max_entries (lent heads bytes count.old) ≡ true }
     ensures { (marks : List ℕ) → sound_marks marks ≡ true →
-        record { number = result; taken = 0; memory = record { table = lent heads.exit bytes.exit count.new; marks = marks } }
-        ≡ effect_of (call_step max_entries (record { table = lent heads.entry bytes.entry count.old; marks = marks })
+        record { number = result; taken = 0; memory = record { table = lent heads.new bytes.new count.new; marks = marks } }
+        ≡ effect_of (call_step max_entries (record { table = lent heads.old bytes.old count.old; marks = marks })
         (with_output max_entries (local_create name.now type_code value.now))) }
 {
     match judge::judge_create(heads, bytes, *count, name, type_code, value) {
@@ -162,8 +163,8 @@ pub fn create(
 pub fn write(heads: &mut [u16], bytes: &mut [u8], count: u16, id: u16, value: &[u8]) -> u8
     requires { sound_table max_entries (lent heads bytes count) ≡ true }
     ensures { (marks : List ℕ) → sound_marks marks ≡ true →
-        record { number = result; taken = 0; memory = record { table = lent heads.exit bytes.exit count; marks = marks } }
-        ≡ effect_of (call_step max_entries (record { table = lent heads.entry bytes.entry count; marks = marks })
+        record { number = result; taken = 0; memory = record { table = lent heads.new bytes.new count; marks = marks } }
+        ≡ effect_of (call_step max_entries (record { table = lent heads.old bytes.old count; marks = marks })
         (with_output max_entries (local_write id value.now))) }
 {
     match judge::judge_write(heads, bytes, count, id, value) {

@@ -1,4 +1,5 @@
 // The bytes of each message of Protocol Revision 2.0, at the start of the output; each function answers how many they are.
+#![tactic(auto)]
 ghost use Rattle.std.specs.Prelude.{◌≡◌, ◌∷◌, [], ◌+◌, ◌≤◌, length};
 ghost use Rattle.field.specs.Octets.{overwrite_at};
 ghost use Rattle.message.specs.Layout.{assignment_bytes, update_bytes, revision_bytes};
@@ -41,9 +42,9 @@ pub fn write_assignment(
 ) -> usize
     requires name_fits { length name.now ≤ max_name_length }
     requires room { length name.now + length value.now + assignment_fixed ≤ length out.old }
-    ensures sent { result ≡ length (assignment_bytes id (lent_entry name.entry type_code number value.entry)) }
+    ensures sent { result ≡ length (assignment_bytes id (lent_entry name.now type_code number value.now)) }
     ensures output { out.new
-        ≡ overwrite_at out.old 0 (assignment_bytes id (lent_entry name.entry type_code number value.entry)) }
+        ≡ overwrite_at out.old 0 (assignment_bytes id (lent_entry name.now type_code number value.now)) }
 {
     let n = name.len();
     let type_at = ASSIGNMENT_NAME_START + n;

@@ -1,4 +1,5 @@
 // A message's fields as C's struct. No table is lent.
+#![tactic(auto)]
 ghost use Rattle.std.specs.Prelude.{◌≡◌, ◌≤◌};
 ghost use Rattle.field.specs.Answer.{done};
 ghost use Rattle.field.specs.Place.{reported_place};
@@ -45,7 +46,7 @@ fn bare(number: u8) -> Fields
 
 // A message of a kind with no entry.
 fn lone_fields(kind: u8, revision: u16, taken: usize) -> Fields
-    ensures* { λ r. ⌜ fields_in r ≡ record { result = fields done kind 0 revision 0 0 taken 0 0; place = 0 } ⌝ }
+    ensures { fields_in result ≡ record { result = fields done kind 0 revision 0 0 taken 0 0; place = 0 } }
 {
     let mut f = bare(DONE);
     f.kind = kind;
@@ -64,9 +65,8 @@ fn entry_fields(
     name_length: usize,
     value_length: usize,
 ) -> Fields
-    ensures* { λ r.
-        ⌜ fields_in r
-        ≡ record { result = fields done kind type_code 0 id entry_number taken name_length value_length; place = 0 } ⌝ }
+    ensures { fields_in result
+        ≡ record { result = fields done kind type_code 0 id entry_number taken name_length value_length; place = 0 } }
 {
     let mut f = bare(DONE);
     f.kind = kind;
@@ -80,7 +80,7 @@ fn entry_fields(
 }
 
 fn refused_fields(fault: Fault) -> Fields
-    ensures* { λ r. ⌜ fields_in r ≡ record { result = fields fault.number 0 0 0 0 0 0 0 0; place = reported_place fault } ⌝ }
+    ensures { fields_in result ≡ record { result = fields fault.number 0 0 0 0 0 0 0 0; place = reported_place fault } }
 {
     let mut f = bare(fault.number);
     f.place = field::reported_place(fault);

@@ -1,4 +1,5 @@
 // The calls on a table in the form that C's calls hand on to: the count is lent, heads are flat numbers, and the answers are C's structs.
+#![tactic(auto)]
 ghost use Rattle.std.specs.Prelude.{◌≡◌, []};
 ghost use Rattle.answer.specs.Answers.{bare_answer};
 ghost use Rattle.table.specs.Table.{lent, max_entries};
@@ -33,9 +34,9 @@ pub const ON_UNSOUND: ScalarAnswer = ScalarAnswer {
 
 // The two promises of a fresh start as one.
 pub fn fresh_flat(flat: &[u16], bytes: &[u8], count: &mut u16, marks: &mut [u8]) -> Answer
-    ensures { (result ≡ bare_answer (fresh_start max_entries (lent_server flat.entry bytes.entry count.old marks.entry)).number)
-        × (lent_server flat.entry bytes.entry count.new marks.exit
-        ≡ (fresh_start max_entries (lent_server flat.entry bytes.entry count.old marks.entry)).memory) }
+    ensures { (result ≡ bare_answer (fresh_start max_entries (lent_server flat.now bytes.now count.old marks.old)).number)
+        × (lent_server flat.now bytes.now count.new marks.new
+        ≡ (fresh_start max_entries (lent_server flat.now bytes.now count.old marks.old)).memory) }
 {
     start::fresh(flat, bytes, count, marks)
 }
@@ -47,8 +48,8 @@ pub fn open_flat(
     marks: &mut [u8],
     connection: usize,
 ) -> Answer
-    ensures { answered result (lent_server flat.entry bytes.entry count.new marks.exit) []
-        ≡ step_with_place max_entries (lent_server flat.entry bytes.entry count.old marks.entry)
+    ensures { answered result (lent_server flat.now bytes.now count.new marks.new) []
+        ≡ step_with_place max_entries (lent_server flat.now bytes.now count.old marks.old)
         (record { call = open_connection connection; output = [] }) }
 {
     server::open(flat, bytes, *count, marks, connection)
@@ -61,8 +62,8 @@ pub fn leave_flat(
     marks: &mut [u8],
     connection: usize,
 ) -> Answer
-    ensures { answered result (lent_server flat.entry bytes.entry count.new marks.exit) []
-        ≡ step_with_place max_entries (lent_server flat.entry bytes.entry count.old marks.entry)
+    ensures { answered result (lent_server flat.now bytes.now count.new marks.new) []
+        ≡ step_with_place max_entries (lent_server flat.now bytes.now count.old marks.old)
         (record { call = leave connection; output = [] }) }
 {
     server::leave_connection(flat, bytes, *count, marks, connection)
@@ -77,9 +78,9 @@ pub fn write_flat(
     value: &[u8],
     out: &mut [u8],
 ) -> Answer
-    ensures { answered result (lent_server flat.exit bytes.exit count.new marks.entry) out.new
-        ≡ step_with_place max_entries (lent_server flat.entry bytes.entry count.old marks.entry)
-        (lent_call (local_write id value.now) out.entry) }
+    ensures { answered result (lent_server flat.new bytes.new count.new marks.now) out.new
+        ≡ step_with_place max_entries (lent_server flat.old bytes.old count.old marks.now)
+        (lent_call (local_write id value.now) out.old) }
 {
     server::write(flat, bytes, *count, marks, id, value, out)
 }
@@ -115,7 +116,7 @@ fn answer_scalar(s: Scalar) -> ScalarAnswer
 }
 
 pub fn read_flat(flat: &[u16], bytes: &[u8], count: &mut u16, id: u16) -> ScalarAnswer
-    ensures { (result ≡ scalar_answer (read_scalar max_entries (lent flat.entry bytes.entry count.old) id))
+    ensures { (result ≡ scalar_answer (read_scalar max_entries (lent flat.now bytes.now count.old) id))
         × (count.new ≡ count.old) }
 {
     let scalar = server::read(flat, bytes, *count, id);
@@ -124,9 +125,9 @@ pub fn read_flat(flat: &[u16], bytes: &[u8], count: &mut u16, id: u16) -> Scalar
 
 // A fresh start of a copy, with its two promises as one.
 pub fn copy_fresh_flat(flat: &[u16], bytes: &[u8], count: &mut u16) -> Answer
-    ensures { (result ≡ bare_answer (copy_fresh_start max_entries (lent flat.entry bytes.entry count.old)).number)
-        × (lent flat.entry bytes.entry count.new
-        ≡ (copy_fresh_start max_entries (lent flat.entry bytes.entry count.old)).memory) }
+    ensures { (result ≡ bare_answer (copy_fresh_start max_entries (lent flat.now bytes.now count.old)).number)
+        × (lent flat.now bytes.now count.new
+        ≡ (copy_fresh_start max_entries (lent flat.now bytes.now count.old)).memory) }
 {
     start::copy_fresh(flat, bytes, count)
 }

@@ -1,4 +1,5 @@
 // The bytes that a connection gathers, and the calls that are made on them.
+#![tactic(auto)]
 ghost use Rattle.std.specs.Prelude.{◌≡◌, true, ◌+◌, ◌-◌, ◌≤◌, length, take, drop};
 ghost use Rattle.table.specs.Table.{TableMemory, max_entries};
 ghost use Rattle.soundness.specs.Sound.{sound_table, sound_marks, connections};
@@ -31,8 +32,8 @@ fn message(
     m: &[u8],
 ) -> Outcome
     requires { SoundMemory max_entries (lent_server heads bytes count.old marks) }
-    ensures { effected result (lent_server heads.exit bytes.exit count.new marks.exit)
-        ≡ message_effect max_entries (lent_server heads.entry bytes.entry count.old marks.entry) c m.now }
+    ensures { effected result (lent_server heads.new bytes.new count.new marks.new)
+        ≡ message_effect max_entries (lent_server heads.old bytes.old count.old marks.old) c m.now }
 {
     if c < soundness::CONNECTIONS {
         return effect::receive(heads, bytes, count, marks, c, m);
@@ -55,7 +56,7 @@ fn is_closed(marks: &[u8], c: usize) -> bool
 fn leave_after(marks: &mut [u8], c: usize)
     requires { sound_marks marks.old ≡ true }
     ensures { (table : TableMemory) → sound_table max_entries table ≡ true →
-        beside_marks table marks.exit ≡ memory_after_run max_entries (beside_marks table marks.entry) (leaving c) }
+        beside_marks table marks.new ≡ memory_after_run max_entries (beside_marks table marks.old) (leaving c) }
 {
     if c < soundness::CONNECTIONS {
         effect::leave(marks, c);
@@ -72,9 +73,9 @@ fn settle(
     held: &[u8],
 ) -> usize
     requires { SoundMemory max_entries (lent_server heads bytes count.old marks) }
-    ensures kept { keeping (lent_server heads.exit bytes.exit count.new marks.exit) (drop result held.now)
+    ensures kept { keeping (lent_server heads.new bytes.new count.new marks.new) (drop result held.now)
         ≡ (settle (length held.now) max_entries
-        (lent_server heads.entry bytes.entry count.old marks.entry) c held.now).kept }
+        (lent_server heads.old bytes.old count.old marks.old) c held.now).kept }
     ensures within { result ≤ length held.now }
 {
     let mut at = 0;
@@ -125,8 +126,8 @@ pub fn gather(
     requires sound { SoundMemory max_entries (lent_server heads bytes count.old marks) }
     requires room { (size ≤ longest_incomplete) × (length arrived.now ≤ max_arrived)
         × (length slot.old ≡ longest_incomplete + max_arrived) }
-    ensures kept { keeping (lent_server heads.exit bytes.exit count.new marks.exit) (take result slot.new)
-        ≡ (gather max_entries (lent_server heads.entry bytes.entry count.old marks.entry) c
+    ensures kept { keeping (lent_server heads.new bytes.new count.new marks.new) (take result slot.new)
+        ≡ (gather max_entries (lent_server heads.old bytes.old count.old marks.old) c
         (take size slot.old) arrived.now).kept }
     ensures short { result ≤ longest_incomplete }
 {

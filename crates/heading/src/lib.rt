@@ -1,4 +1,5 @@
 // One message of a delivery: what it sends stands behind a heading.
+#![tactic(auto)]
 ghost use Rattle.std.specs.Prelude.{◌≡◌, ◌^◌, ◌<◌, ◌≤◌, min, length};
 ghost use Rattle.field.specs.Octets.{overwrite_at};
 ghost use Rattle.table.specs.Table.{max_entries};
@@ -44,8 +45,8 @@ pub fn receive_with_heading(
     out: &mut [u8],
 ) -> Answer
     requires { SoundMemory max_entries (lent_server heads bytes count.old marks) }
-    ensures { answered result (lent_server heads.exit bytes.exit count.new marks.exit) out.new
-        ≡ message_with_place max_entries (lent_server heads.entry bytes.entry count.old marks.entry)
+    ensures { answered result (lent_server heads.new bytes.new count.new marks.new) out.new
+        ≡ message_with_place max_entries (lent_server heads.old bytes.old count.old marks.old)
         c input.now out.old }
 {
     let from = behind_heading(out.len());

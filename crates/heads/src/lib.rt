@@ -1,4 +1,5 @@
 // A table's heads as C lends them, and the same heads as flat numbers.
+#![tactic(auto)]
 ghost use Rattle.std.specs.Prelude.{◌≡◌, ◌+◌, ◌*◌, ◌<◌, ◌≤◌, length};
 ghost use Rattle.table.specs.Table.{max_entries, head_size, number_field};
 ghost use Rattle.heads.specs.Heads.{head_numbers, changed, with_head, head_at, loaded, stored};

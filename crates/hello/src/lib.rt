@@ -1,4 +1,5 @@
 // The answer to a hello.
+#![tactic(auto)]
 ghost use Rattle.std.specs.Prelude.{◌≡◌, ◌+◌, ◌*◌, ◌≤◌, ◌<◌, length};
 ghost use Rattle.field.specs.Octets.{overwrite_at};
 ghost use Rattle.message.specs.Layout.{assignment_bytes};
@@ -13,7 +14,7 @@ pub const LONGEST_HELLO: usize = LONGEST_ASSIGNMENT * table::MAX_ENTRIES + KIND_
 // How many bytes the answer to a hello has.
 pub fn hello_length(heads: &[u16], bytes: &[u8], count: u16) -> usize
     requires { Readable count heads.now bytes.now }
-    ensures length { result ≡ length (hello_answer 0 (entries_of (lent heads.entry bytes.entry count))) }
+    ensures length { result ≡ length (hello_answer 0 (entries_of (lent heads.now bytes.now count))) }
     ensures bound { result ≤ longest_hello count }
 {
     let mut sum = KIND_SIZE;
@@ -48,9 +49,9 @@ fn write_entry(heads: &[u16], bytes: &[u8], id: u16, out: &mut [u8]) -> usize
 pub fn write_hello(heads: &[u16], bytes: &[u8], count: u16, out: &mut [u8]) -> usize
     requires entries { Readable count heads.now bytes.now }
     requires room { length (hello_answer 0 (entries_of (lent heads bytes count))) ≤ length out.old }
-    ensures length { result ≡ length (hello_answer 0 (entries_of (lent heads.entry bytes.entry count))) }
+    ensures length { result ≡ length (hello_answer 0 (entries_of (lent heads.now bytes.now count))) }
     ensures output { out.new
-        ≡ overwrite_at out.old 0 (hello_answer 0 (entries_of (lent heads.entry bytes.entry count))) }
+        ≡ overwrite_at out.old 0 (hello_answer 0 (entries_of (lent heads.now bytes.now count))) }
 {
     let mut end = 0;
     let mut id = 0;

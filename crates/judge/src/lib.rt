@@ -1,4 +1,5 @@
 // What a call comes to: read only, the output is not looked at.
+#![tactic(auto)]
 ghost use Rattle.std.specs.Prelude.{◌≡◌, true, ℕ, ◌≤◌, ◌<◌, List, length};
 ghost use Rattle.message.specs.Layout.{Entry};
 ghost use Rattle.message.specs.Reader.{id_allowed, parse_assignment};
@@ -64,7 +65,7 @@ fn judge_hello(mark: u8, m: &[u8]) -> Decision
 fn judge_assignment(heads: &[u16], bytes: &[u8], count: u16, m: &[u8]) -> Decision
     requires { sound_table max_entries (lent heads bytes count) ≡ true }
     ensures { (c : ℕ) → Decides count c m.now result
-        (judge_assignment max_entries (entries_of (lent heads.entry bytes.entry count)) m.now
+        (judge_assignment max_entries (entries_of (lent heads.now bytes.now count)) m.now
         (parse_assignment (id_allowed (AllowedId.Only new_id)) m.now)) }
 {
     match message::read_assignment(m, AllowedId::Only(NEW_ID)) {
@@ -97,8 +98,8 @@ fn judge_assignment(heads: &[u16], bytes: &[u8], count: u16, m: &[u8]) -> Decisi
 fn judge_update(heads: &[u16], bytes: &[u8], count: u16, m: &[u8]) -> Decision
     requires { sound_table max_entries (lent heads bytes count) ≡ true }
     ensures { (c : ℕ) → Decides count c m.now result
-        (judge_update c (entries_of (lent heads.entry bytes.entry count)) m.now
-        (parse_held_update (entries_of (lent heads.entry bytes.entry count)) m.now)) }
+        (judge_update c (entries_of (lent heads.now bytes.now count)) m.now
+        (parse_held_update (entries_of (lent heads.now bytes.now count)) m.now)) }
 {
     match table::read_held_update(heads, bytes, count, m) {
         UpdateRead::Refused(fault) => Decision::Refuse(fault),
@@ -125,7 +126,7 @@ fn judge_update(heads: &[u16], bytes: &[u8], count: u16, m: &[u8]) -> Decision
 fn judge_message(heads: &[u16], bytes: &[u8], count: u16, mark: u8, m: &[u8]) -> Decision
     requires { sound_table max_entries (lent heads bytes count) ≡ true }
     ensures { (c : ℕ) → c < connections → Decides count c m.now result
-        (judge_message max_entries (entries_of (lent heads.entry bytes.entry count)) c mark m.now) }
+        (judge_message max_entries (entries_of (lent heads.now bytes.now count)) c mark m.now) }
 {
     let Octet::There(kind) = reader::octet_at(m, 0) else {
         return Decision::Refuse(fault_at(INCOMPLETE, 0));
@@ -163,7 +164,7 @@ pub fn judge_client_message(
     requires sound { sound_table max_entries (lent heads bytes count) ≡ true }
     requires marks { connections ≤ length marks.now }
     ensures { Decides count c m.now result
-        (judge max_entries (entries_of (lent heads.entry bytes.entry count)) marks.now
+        (judge max_entries (entries_of (lent heads.now bytes.now count)) marks.now
         (client_message c m.now)) }
 {
     if c >= soundness::CONNECTIONS {
@@ -236,7 +237,7 @@ pub fn judge_create(
     requires { sound_table max_entries (lent heads bytes count) ≡ true }
     ensures { (marks : List ℕ) →
         DecidesCreate count name.now type_code value.now result
-        (judge max_entries (entries_of (lent heads.entry bytes.entry count)) marks
+        (judge max_entries (entries_of (lent heads.now bytes.now count)) marks
         (local_create name.now type_code value.now)) }
 {
     let checked_name = writer::check_name(name);
@@ -270,7 +271,7 @@ pub fn judge_write(heads: &[u16], bytes: &[u8], count: u16, id: u16, value: &[u8
     requires { sound_table max_entries (lent heads bytes count) ≡ true }
     ensures { (marks : List ℕ) →
         DecidesWrite count id value.now result
-        (judge max_entries (entries_of (lent heads.entry bytes.entry count)) marks
+        (judge max_entries (entries_of (lent heads.now bytes.now count)) marks
         (local_write id value.now)) }
 {
     if id >= count {

@@ -1,4 +1,5 @@
 // The listing of a stream: one line a message, as text in a lent buffer.
+#![tactic(auto)]
 ghost use Rattle.std.specs.Prelude.{◌≡◌, ◌<◌, min, length};
 ghost use Rattle.protocol.specs.Lent.{lent_server};
 ghost use Rattle.digits.specs.Put.{Put};
@@ -51,7 +52,7 @@ fn put_messages(
 ) -> usize
     ensures { Put text.old at
         (messages_text (length stream.now) 0
-        (lent_server heads.entry bytes.entry count.old marks.entry) out.old stream.now)
+        (lent_server heads.old bytes.old count.old marks.old) out.old stream.now)
         text.new result }
 {
     let mut end = at;
@@ -87,7 +88,7 @@ fn list_on(
     text: &mut [u8],
 ) -> usize
     ensures { Put text.old 0
-        (listing_on (lent_server heads.entry bytes.entry 0 marks.entry) out.old input.now)
+        (listing_on (lent_server heads.old bytes.old 0 marks.old) out.old input.now)
         text.new result }
 {
     let mut count: u16 = 0;

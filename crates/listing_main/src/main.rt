@@ -1,4 +1,5 @@
 // Reads a stream of connection 0 from standard input, and writes its listing to standard output.
+#![tactic(auto)]
 
 // Room for a line of 25 bytes for each of 4,096 messages, and for the head line and the end line.
 const TEXT_SIZE: usize = 102500;

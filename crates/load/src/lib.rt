@@ -1,4 +1,5 @@
 // Loading a table: a saved form is judged whole, and then its entries are stored.
+#![tactic(auto)]
 ghost use Rattle.std.specs.Prelude.{◌≡◌, [], ◌+◌, ◌≤◌, ◌<◌, length, drop};
 ghost use Rattle.table.specs.Names.{name_held};
 ghost use Rattle.table.specs.Table.{Holds, table_memory, lent, tabulate, emptied, heads_with_entry, bytes_with_entry, max_entries};
@@ -137,8 +138,8 @@ fn store_record(heads: &mut [u16], bytes: &mut [u8], i: usize, s: &[u8])
 fn store_records(heads: &mut [u16], bytes: &mut [u8], s: &[u8], count: usize)
     requires memory { (count ≤ max_entries) × Holds max_entries heads.old bytes.old }
     requires records { Records count s.now }
-    ensures { lent heads.exit bytes.exit count
-        ≡ calls.store_all (lent heads.entry bytes.entry 0) (tabulate count (saved_entry s.now)) }
+    ensures { lent heads.new bytes.new count
+        ≡ calls.store_all (lent heads.old bytes.old 0) (tabulate count (saved_entry s.now)) }
 {
     let mut i = 0;
     while i < count {
@@ -171,8 +172,8 @@ pub fn load(
     marks: &[u8],
     saved: &[u8],
 ) -> Answer
-    ensures { calls.load_result result (lent heads.exit bytes.exit count.new)
-        ≡ calls.load max_entries (lent heads.entry bytes.entry count.old) marks.now saved.now }
+    ensures { calls.load_result result (lent heads.new bytes.new count.new)
+        ≡ calls.load max_entries (lent heads.old bytes.old count.old) marks.now saved.now }
 {
     if !soundness::table_is_sound(heads, bytes, *count) {
         return answer::unsound();

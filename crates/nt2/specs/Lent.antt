@@ -1,6 +1,5 @@
 -- Memory as C lends it, "64 entry heads beside their bytes", and what a call on it promises, over the numbers of the heads.
 use Rattle.std.specs.Prelude.{ℕ, List, ◌≡◌, drop}
-use Rattle.std.specs.Borrow.{Bor}
 use Rattle.table.specs.Table.{TableMemory, table_memory, max_entries}
 use Rattle.field.specs.Place.{WithPlace}
 use Rattle.answer.specs.Answers.{bare_answer}
@@ -28,11 +27,11 @@ pub record HeadsServer : Type 0 where
   pub marks : List ℕ
 
 -- the same as it is lent to a call
-abbrev pub lent_table : Bor (List Head) → Bor (List ℕ) → Bor ℕ → HeadsTable
-lent_table heads bytes count = record { heads = heads.now; bytes = bytes.now; count = count.now }
+abbrev pub lent_table : List Head → List ℕ → ℕ → HeadsTable
+lent_table heads bytes count = record { heads = heads; bytes = bytes; count = count }
 
-abbrev pub lent : Bor (List Head) → Bor (List ℕ) → Bor ℕ → Bor (List ℕ) → HeadsServer
-lent heads bytes count marks = record { table = lent_table heads bytes count; marks = marks.now }
+abbrev pub lent : List Head → List ℕ → ℕ → List ℕ → HeadsServer
+lent heads bytes count marks = record { table = lent_table heads bytes count; marks = marks }
 
 -- the same with the numbers of the heads
 abbrev pub table_of : HeadsTable → TableMemory

@@ -1,4 +1,5 @@
 // The calls that are exported to C. Of those on a table, heads become numbers, the call is made on them, and they become heads again.
+#![tactic(auto)]
 ghost use Rattle.std.specs.Prelude.{◌≡◌, []};
 ghost use Rattle.protocol.specs.Judge.{open_connection, leave, client_message, local_create, local_write};
 ghost use Rattle.protocol.specs.Lent.{lent_call};
@@ -21,8 +22,8 @@ pub extern "C" fn nt2_fresh(
     count: &mut u16,
     marks: &mut [u8],
 ) -> Answer
-    ensures { Started (lent heads.entry bytes.entry count.entry marks.entry) result
-        (lent heads.entry bytes.entry count.exit marks.exit) }
+    ensures { Started (lent heads.now bytes.now count.old marks.old) result
+        (lent heads.now bytes.now count.new marks.new) }
 {
     if heads.len() < table::MAX_ENTRIES {
         return answer::ON_UNSOUND;
@@ -40,8 +41,8 @@ pub extern "C" fn nt2_open(
     marks: &mut [u8],
     connection: usize,
 ) -> Answer
-    ensures { heads_answered result (lent heads.entry bytes.entry count.exit marks.exit) []
-        ≡ heads_step (lent heads.entry bytes.entry count.entry marks.entry)
+    ensures { heads_answered result (lent heads.now bytes.now count.new marks.new) []
+        ≡ heads_step (lent heads.now bytes.now count.old marks.old)
         (record { call = open_connection connection; output = [] }) }
 {
     if heads.len() < table::MAX_ENTRIES {
@@ -60,8 +61,8 @@ pub extern "C" fn nt2_leave(
     marks: &mut [u8],
     connection: usize,
 ) -> Answer
-    ensures { heads_answered result (lent heads.entry bytes.entry count.exit marks.exit) []
-        ≡ heads_step (lent heads.entry bytes.entry count.entry marks.entry)
+    ensures { heads_answered result (lent heads.now bytes.now count.new marks.new) []
+        ≡ heads_step (lent heads.now bytes.now count.old marks.old)
         (record { call = leave connection; output = [] }) }
 {
     if heads.len() < table::MAX_ENTRIES {
@@ -82,9 +83,9 @@ pub extern "C" fn nt2_receive(
     message: &[u8],
     out: &mut [u8],
 ) -> Answer
-    ensures { heads_answered result (lent heads.exit bytes.exit count.exit marks.exit) out.new
-        ≡ heads_step (lent heads.entry bytes.entry count.entry marks.entry)
-        (lent_call (client_message connection message.now) out.entry) }
+    ensures { heads_answered result (lent heads.new bytes.new count.new marks.new) out.new
+        ≡ heads_step (lent heads.old bytes.old count.old marks.old)
+        (lent_call (client_message connection message.now) out.old) }
 {
     if heads.len() < table::MAX_ENTRIES {
         return answer::ON_UNSOUND;
@@ -107,9 +108,9 @@ pub extern "C" fn nt2_create(
     value: &[u8],
     out: &mut [u8],
 ) -> Answer
-    ensures { heads_answered result (lent heads.exit bytes.exit count.exit marks.entry) out.new
-        ≡ heads_step (lent heads.entry bytes.entry count.entry marks.entry)
-        (lent_call (local_create name.now type_code value.now) out.entry) }
+    ensures { heads_answered result (lent heads.new bytes.new count.new marks.now) out.new
+        ≡ heads_step (lent heads.old bytes.old count.old marks.now)
+        (lent_call (local_create name.now type_code value.now) out.old) }
 {
     if heads.len() < table::MAX_ENTRIES {
         return answer::ON_UNSOUND;
@@ -131,9 +132,9 @@ pub extern "C" fn nt2_write(
     value: &[u8],
     out: &mut [u8],
 ) -> Answer
-    ensures { heads_answered result (lent heads.exit bytes.exit count.exit marks.entry) out.new
-        ≡ heads_step (lent heads.entry bytes.entry count.entry marks.entry)
-        (lent_call (local_write id value.now) out.entry) }
+    ensures { heads_answered result (lent heads.new bytes.new count.new marks.now) out.new
+        ≡ heads_step (lent heads.old bytes.old count.old marks.now)
+        (lent_call (local_write id value.now) out.old) }
 {
     if heads.len() < table::MAX_ENTRIES {
         return answer::ON_UNSOUND;
@@ -147,8 +148,8 @@ pub extern "C" fn nt2_write(
 
 #[unsafe(no_mangle)]
 pub extern "C" fn nt2_read(heads: &[Head], bytes: &[u8], count: &mut u16, id: u16) -> ScalarAnswer
-    ensures { EntryRead (lent_table heads.entry bytes.entry count.entry) id result
-        (lent_table heads.entry bytes.entry count.exit) }
+    ensures { EntryRead (lent_table heads.now bytes.now count.old) id result
+        (lent_table heads.now bytes.now count.new) }
 {
     if heads.len() < table::MAX_ENTRIES {
         return flat::ON_UNSOUND;
@@ -160,8 +161,8 @@ pub extern "C" fn nt2_read(heads: &[Head], bytes: &[u8], count: &mut u16, id: u1
 
 #[unsafe(no_mangle)]
 pub extern "C" fn nt2_copy_fresh(heads: &[Head], bytes: &[u8], count: &mut u16) -> Answer
-    ensures { CopyStarted (lent_table heads.entry bytes.entry count.entry) result
-        (lent_table heads.entry bytes.entry count.exit) }
+    ensures { CopyStarted (lent_table heads.now bytes.now count.old) result
+        (lent_table heads.now bytes.now count.new) }
 {
     if heads.len() < table::MAX_ENTRIES {
         return answer::ON_UNSOUND;
@@ -178,8 +179,8 @@ pub extern "C" fn nt2_copy_receive(
     count: &mut u16,
     message: &[u8],
 ) -> Copied
-    ensures { heads_copied result (lent_table heads.exit bytes.exit count.exit)
-        ≡ heads_copy_message (lent_table heads.entry bytes.entry count.entry) message.now }
+    ensures { heads_copied result (lent_table heads.new bytes.new count.new)
+        ≡ heads_copy_message (lent_table heads.old bytes.old count.old) message.now }
 {
     if heads.len() < table::MAX_ENTRIES {
         return client::ON_UNSOUND;
@@ -206,7 +207,7 @@ pub extern "C" fn nt2_encode(
     out: &mut [u8],
 ) -> Answer
     ensures { written result out.new
-        ≡ write_with_place (check (lent_fields kind revision name.entry type_code id entry_number value.entry))
+        ≡ write_with_place (check (lent_fields kind revision name.now type_code id entry_number value.now))
         out.old }
 {
     writer::write_message(

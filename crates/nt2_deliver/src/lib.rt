@@ -1,4 +1,5 @@
 // A whole delivery at once, exported to C: heads become numbers once, all messages are taken on them, and they become heads again.
+#![tactic(auto)]
 ghost use Rattle.std.specs.Prelude.{◌≡◌};
 ghost use Rattle.nt2.specs.Lent.{lent};
 ghost use Rattle.nt2_deliver.specs.Lent.{heads_delivered, heads_delivery};
@@ -18,8 +19,8 @@ pub extern "C" fn nt2_deliver(
     input: &[u8],
     out: &mut [u8],
 ) -> Delivered
-    ensures { heads_delivered result (lent heads.exit bytes.exit count.exit marks.exit) out.new
-        ≡ heads_delivery (lent heads.entry bytes.entry count.entry marks.entry) connection input.now
+    ensures { heads_delivered result (lent heads.new bytes.new count.new marks.new) out.new
+        ≡ heads_delivery (lent heads.old bytes.old count.old marks.old) connection input.now
         out.old }
 {
     if heads.len() < table::MAX_ENTRIES {

@@ -1,4 +1,5 @@
 // A line record run again, exported to C: heads become numbers once, all records are done on them, and they become heads again.
+#![tactic(auto)]
 ghost use Rattle.std.specs.Prelude.{◌≡◌};
 ghost use Rattle.nt2.specs.Lent.{lent};
 ghost use Rattle.nt2_replay.specs.Lent.{heads_replayed, heads_replay};
@@ -16,8 +17,8 @@ pub extern "C" fn nt2_replay(
     marks: &mut [u8],
     recorded: &[u8],
 ) -> Replayed
-    ensures { heads_replayed result (lent heads.exit bytes.exit count.exit marks.exit)
-        ≡ heads_replay (lent heads.entry bytes.entry count.entry marks.entry) recorded.now }
+    ensures { heads_replayed result (lent heads.new bytes.new count.new marks.new)
+        ≡ heads_replay (lent heads.old bytes.old count.old marks.old) recorded.now }
 {
     if heads.len() < table::MAX_ENTRIES {
         return replay::ON_SHORT;

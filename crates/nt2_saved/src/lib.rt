@@ -1,4 +1,5 @@
 // Saving and loading a table, exported to C: heads become numbers, and those of a load become heads again.
+#![tactic(auto)]
 ghost use Rattle.std.specs.Prelude.{◌≡◌};
 ghost use Rattle.saved.specs.Calls.{save_result};
 ghost use Rattle.nt2.specs.Lent.{lent, lent_table, heads_loaded, heads_load};
@@ -10,7 +11,7 @@ use heads::Head;
 #[unsafe(no_mangle)]
 pub extern "C" fn nt2_save(heads: &[Head], bytes: &[u8], count: &u16, out: &mut [u8]) -> Answer
     ensures { save_result result out.new
-        ≡ heads_save (lent_table heads.entry bytes.entry count.entry) out.old }
+        ≡ heads_save (lent_table heads.now bytes.now count.now) out.old }
 {
     if heads.len() < table::MAX_ENTRIES {
         return answer::ON_UNSOUND;
@@ -28,8 +29,8 @@ pub extern "C" fn nt2_load(
     marks: &[u8],
     saved: &[u8],
 ) -> Answer
-    ensures { heads_loaded result (lent_table heads.exit bytes.exit count.exit)
-        ≡ heads_load (lent heads.entry bytes.entry count.entry marks.entry) saved.now }
+    ensures { heads_loaded result (lent_table heads.new bytes.new count.new)
+        ≡ heads_load (lent heads.old bytes.old count.old marks.now) saved.now }
 {
     if heads.len() < table::MAX_ENTRIES {
         return answer::ON_UNSOUND;

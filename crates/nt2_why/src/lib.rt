@@ -1,4 +1,5 @@
 // Why a client's message is done, ignored or refused, exported to C: heads become numbers, and nothing is changed.
+#![tactic(auto)]
 ghost use Rattle.std.specs.Prelude.{◌≡◌};
 ghost use Rattle.nt2.specs.Lent.{lent};
 ghost use Rattle.nt2_why.specs.Lent.{heads_why};
@@ -15,7 +16,7 @@ pub extern "C" fn nt2_why(
     connection: usize,
     message: &[u8],
 ) -> ReasonAnswer
-    ensures { result ≡ heads_why (lent heads.entry bytes.entry count.entry marks.entry) connection message.now }
+    ensures { result ≡ heads_why (lent heads.now bytes.now count.now marks.now) connection message.now }
 {
     if heads.len() < table::MAX_ENTRIES {
         return why::ON_UNSOUND;

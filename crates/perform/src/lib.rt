@@ -1,4 +1,5 @@
 // What a verdict on a client's message does: the answer, the output, and lent memory afterwards.
+#![tactic(auto)]
 ghost use Rattle.std.specs.Prelude.{◌≡◌, true, ◌+◌, ◌≤◌, ◌<◌, length};
 ghost use Rattle.table.specs.Table.{TableMemory, lent, max_entries};
 ghost use Rattle.soundness.specs.Sound.{sound_table, connections};
@@ -24,8 +25,8 @@ fn greet(
 ) -> Answer
     requires sound { (c < connections) × (sound_table max_entries (lent heads bytes count) ≡ true) }
     requires marks { connections ≤ length marks.old }
-    ensures { answered result (lent_server heads.entry bytes.entry count marks.exit) out.new
-        ≡ execute_with_place (lent_server heads.entry bytes.entry count marks.entry) out.old (accept_hello c) }
+    ensures { answered result (lent_server heads.now bytes.now count marks.new) out.new
+        ≡ execute_with_place (lent_server heads.now bytes.now count marks.old) out.old (accept_hello c) }
 {
     let length = hello::hello_length(heads, bytes, count);
     if out.len() < length {
@@ -41,8 +42,8 @@ fn greet(
 fn turn_away(marks: &mut [u8], c: usize, out: &mut [u8]) -> Answer
     requires { (c < connections) × (connections ≤ length marks.old) }
     ensures { (table : TableMemory) →
-        answered result (beside_marks table marks.exit) out.new
-        ≡ execute_with_place (beside_marks table marks.entry) out.old (unsupported_revision c) }
+        answered result (beside_marks table marks.new) out.new
+        ≡ execute_with_place (beside_marks table marks.old) out.old (unsupported_revision c) }
 {
     if out.len() < REVISION_LENGTH {
         return answer::no_room();
@@ -69,8 +70,8 @@ pub fn perform(
     requires sound { sound_table max_entries (lent heads bytes count.old) ≡ true }
     requires marks { connections ≤ length marks.old }
     requires performable { Performable count.old c m.now decision }
-    ensures { answered result (lent_server heads.exit bytes.exit count.new marks.exit) out.new
-        ≡ execute_with_place (lent_server heads.entry bytes.entry count.old marks.entry) out.old
+    ensures { answered result (lent_server heads.new bytes.new count.new marks.new) out.new
+        ≡ execute_with_place (lent_server heads.old bytes.old count.old marks.old) out.old
         (verdict_of c m.now decision) }
 {
     match decision {

@@ -1,4 +1,5 @@
 // Messages of the plant's own code in a line record: local calls.
+#![tactic(auto)]
 ghost use Rattle.std.specs.Prelude.{◌≡◌, true, List, ℕ};
 ghost use Rattle.field.specs.Choice.{pick};
 ghost use Rattle.answer.specs.Answers.{goes_on};
@@ -41,8 +42,8 @@ fn taken(number: u8, size: usize) -> usize
 fn create(heads: &mut [u16], bytes: &mut [u8], count: &mut u16, m: &[u8]) -> Outcome
     requires { sound_table max_entries (lent heads bytes count.old) ≡ true }
     ensures { (marks : List ℕ) → sound_marks marks ≡ true →
-        effected result (record { table = lent heads.exit bytes.exit count.new; marks = marks })
-        ≡ plant_effect max_entries (record { table = lent heads.entry bytes.entry count.old; marks = marks })
+        effected result (record { table = lent heads.new bytes.new count.new; marks = marks })
+        ≡ plant_effect max_entries (record { table = lent heads.old bytes.old count.old; marks = marks })
         (plant_create m.now (parse_assignment (id_allowed (AllowedId.Only new_id)) m.now)) }
 {
     match message::read_assignment(m, AllowedId::Only(judge::NEW_ID)) {
@@ -68,9 +69,9 @@ fn create(heads: &mut [u16], bytes: &mut [u8], count: &mut u16, m: &[u8]) -> Out
 fn write(heads: &mut [u16], bytes: &mut [u8], count: u16, m: &[u8]) -> Outcome
     requires { sound_table max_entries (lent heads bytes count) ≡ true }
     ensures { (marks : List ℕ) → sound_marks marks ≡ true →
-        effected result (record { table = lent heads.exit bytes.exit count; marks = marks })
-        ≡ plant_effect max_entries (record { table = lent heads.entry bytes.entry count; marks = marks })
-        (plant_write m.now (parse_held_update (entries_of (lent heads.entry bytes.entry count)) m.now)) }
+        effected result (record { table = lent heads.new bytes.new count; marks = marks })
+        ≡ plant_effect max_entries (record { table = lent heads.old bytes.old count; marks = marks })
+        (plant_write m.now (parse_held_update (entries_of (lent heads.old bytes.old count)) m.now)) }
 {
     match table::read_held_update(heads, bytes, count, m) {
         UpdateRead::Refused(fault) => answers(fault.number, 0),
@@ -90,9 +91,9 @@ fn write(heads: &mut [u16], bytes: &mut [u8], count: u16, m: &[u8]) -> Outcome
 pub fn receive_local(heads: &mut [u16], bytes: &mut [u8], count: &mut u16, m: &[u8]) -> Outcome
     requires { sound_table max_entries (lent heads bytes count.old) ≡ true }
     ensures { (marks : List ℕ) → sound_marks marks ≡ true →
-        effected result (record { table = lent heads.exit bytes.exit count.new; marks = marks })
-        ≡ plant_effect max_entries (record { table = lent heads.entry bytes.entry count.old; marks = marks })
-        (plant_message (entries_of (lent heads.entry bytes.entry count.old)) m.now) }
+        effected result (record { table = lent heads.new bytes.new count.new; marks = marks })
+        ≡ plant_effect max_entries (record { table = lent heads.old bytes.old count.old; marks = marks })
+        (plant_message (entries_of (lent heads.old bytes.old count.old)) m.now) }
 {
     let Octet::There(kind) = reader::octet_at(m, 0) else {
         return answers(INCOMPLETE, 0);

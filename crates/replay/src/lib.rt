@@ -1,4 +1,5 @@
 // A line record run again: the fresh start, then record after record.
+#![tactic(auto)]
 ghost use Rattle.std.specs.Prelude.{◌≡◌, ◌*◌, ◌≤◌, length, replicate};
 ghost use Rattle.table.specs.Table.{max_entries};
 ghost use Rattle.protocol.specs.Lent.{lent_server};
@@ -126,10 +127,10 @@ pub fn advance(
 ) -> Progress
     requires { Ready (lent_server heads bytes count.old marks) sizes slots }
     ensures answer { ProgressIs result (advance max_entries
-        (state_of (lent_server heads.entry bytes.entry count.old marks.entry) sizes.entry slots.entry)
+        (state_of (lent_server heads.old bytes.old count.old marks.old) sizes.old slots.old)
         s.now)
-        (state_of (lent_server heads.exit bytes.exit count.new marks.exit) sizes.exit slots.exit) }
-    ensures ready { Ready (lent_server heads.exit bytes.exit count.new marks.exit) sizes.exit slots.exit }
+        (state_of (lent_server heads.new bytes.new count.new marks.new) sizes.new slots.new) }
+    ensures ready { Ready (lent_server heads.new bytes.new count.new marks.new) sizes.new slots.new }
     ensures within { result.size ≤ length s.now }
 {
     match read_record(s) {
@@ -188,9 +189,9 @@ fn run(
     recorded: &[u8],
 ) -> Replayed
     requires { Ready (lent_server heads bytes count.old marks) sizes slots }
-    ensures { replayed result (lent_server heads.exit bytes.exit count.new marks.exit)
+    ensures { replayed result (lent_server heads.new bytes.new count.new marks.new)
         ≡ result_of (run (length recorded.now) max_entries
-        (state_of (lent_server heads.entry bytes.entry count.old marks.entry) sizes.entry slots.entry)
+        (state_of (lent_server heads.old bytes.old count.old marks.old) sizes.old slots.old)
         recorded.now) }
 {
     let mut at = 0;
@@ -217,8 +218,8 @@ fn replay_on(
     recorded: &[u8],
 ) -> Replayed
     requires { (sizes.old ≡ replicate recorded_connections 0) × (length slots.old ≡ slot_size * recorded_connections) }
-    ensures { replayed result (lent_server heads.exit bytes.exit count.new marks.exit)
-        ≡ result_of (replay max_entries (lent_server heads.entry bytes.entry count.old marks.entry)
+    ensures { replayed result (lent_server heads.new bytes.new count.new marks.new)
+        ≡ result_of (replay max_entries (lent_server heads.old bytes.old count.old marks.old)
         recorded.now) }
 {
     let a = start::fresh(heads, bytes, count, marks);
@@ -236,8 +237,8 @@ pub fn replay(
     marks: &mut [u8],
     recorded: &[u8],
 ) -> Replayed
-    ensures { replayed result (lent_server heads.exit bytes.exit count.new marks.exit)
-        ≡ result_of (replay max_entries (lent_server heads.entry bytes.entry count.old marks.entry)
+    ensures { replayed result (lent_server heads.new bytes.new count.new marks.new)
+        ≡ result_of (replay max_entries (lent_server heads.old bytes.old count.old marks.old)
         recorded.now) }
 {
     let mut sizes = [0usize; slots::RECORDED_CONNECTIONS];

@@ -1,5 +1,6 @@
 // Reads a line record from standard input, runs it again, and writes the table at its end to standard output. It may have any length:
 // it is read and done one record at a time.
+#![tactic(auto)]
 ghost use Rattle.std.specs.Prelude.{◌≡◌, ◌+◌, ◌*◌, ◌≤◌, length, replicate};
 ghost use Rattle.table.specs.Table.{max_entries, head_size, entry_size};
 ghost use Rattle.soundness.specs.Sound.{connections};
@@ -43,9 +44,9 @@ fn run_input(
 ) -> u8
     requires ready { Ready (lent_server heads bytes count.old marks) sizes slots }
     requires piece { length piece.old ≡ record_head_size + max_arrived }
-    ensures runs { Runs (state_of (lent_server heads.entry bytes.entry count.old marks.entry) sizes.entry slots.entry) result
-        (state_of (lent_server heads.exit bytes.exit count.new marks.exit) sizes.exit slots.exit) }
-    ensures ready { Ready (lent_server heads.exit bytes.exit count.new marks.exit) sizes.exit slots.exit }
+    ensures runs { Runs (state_of (lent_server heads.old bytes.old count.old marks.old) sizes.old slots.old) result
+        (state_of (lent_server heads.new bytes.new count.new marks.new) sizes.new slots.new) }
+    ensures ready { Ready (lent_server heads.new bytes.new count.new marks.new) sizes.new slots.new }
 {
     let mut left: usize = 18446744073709551615;
     while left > 0 {
@@ -76,7 +77,7 @@ fn put_replay(
     requires marks { length marks.old ≡ connections }
     requires slots { (sizes.old ≡ replicate recorded_connections 0) × (length slots.old ≡ slot_size * recorded_connections) }
     requires piece { length piece.old ≡ record_head_size + max_arrived }
-    ensures { Shows (lent_server heads.entry bytes.entry 0 marks.entry) text.old text.new result }
+    ensures { Shows (lent_server heads.old bytes.old 0 marks.old) text.old text.new result }
 {
     let mut count: u16 = 0;
     start::fresh(heads, bytes, &mut count, marks);

@@ -1,5 +1,6 @@
 // A run of calls on stale memory. Each line of standard input is a call, and is printed with its answer; see `script` for its
 // bytes. The run is played for each client in turn: its copy is made of what is sent to it, and compared with the server's table.
+#![tactic(auto)]
 mod calls;
 mod copies;
 

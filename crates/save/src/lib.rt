@@ -1,4 +1,5 @@
 // Saving a table: its saved form is written into a lent output.
+#![tactic(auto)]
 ghost use Rattle.std.specs.Prelude.{◌≡◌, ◌+◌, ◌≤◌, ◌<◌, length, replicate};
 ghost use Rattle.field.specs.Octets.{overwrite_at};
 ghost use Rattle.value.specs.Value.{max_value_size};
@@ -54,7 +55,7 @@ fn put_record(out: &mut [u8], at: usize, name: &[u8], type_code: u8, number: u16
     requires room { at + entry_record_size ≤ length out.old }
     requires lengths { (length name.now ≤ max_name_length) × (length value.now ≤ max_value_size) }
     ensures { out.new
-        ≡ overwrite_at out.old at (entry_record (lent_entry name.entry type_code number value.entry)) }
+        ≡ overwrite_at out.old at (entry_record (lent_entry name.now type_code number value.now)) }
 {
     let name_length = name.len() as u8;
     let value_length = value.len() as u16;
@@ -101,7 +102,7 @@ fn put_form(out: &mut [u8], heads: &[u16], bytes: &[u8], count: usize)
     requires table { (count ≤ max_entries) × Readable count heads.now bytes.now }
     requires room { saved_size count ≤ length out.old }
     ensures { out.new
-        ≡ overwrite_at out.old 0 (saved_form (entries_of (lent heads.entry bytes.entry count))) }
+        ≡ overwrite_at out.old 0 (saved_form (entries_of (lent heads.now bytes.now count))) }
 {
     put_count(out, count as u8);
     let mut i = 0;
@@ -114,7 +115,7 @@ fn put_form(out: &mut [u8], heads: &[u16], bytes: &[u8], count: usize)
 // Saves the table at the start of the output: 14, 12.
 pub fn save(heads: &[u16], bytes: &[u8], count: &u16, out: &mut [u8]) -> Answer
     ensures { calls.save_result result out.new
-        ≡ calls.save max_entries (lent heads.entry bytes.entry count.now) out.old }
+        ≡ calls.save max_entries (lent heads.now bytes.now count.now) out.old }
 {
     if !soundness::table_is_sound(heads, bytes, *count) {
         return answer::unsound();

@@ -2,6 +2,7 @@
 //   61*40   so many times, here 64, the byte before the star
 //   ?0A     a byte below this one, here below 10, that the seed and the place in the line choose
 // Answers are printed behind their line.
+#![tactic(auto)]
 ghost use Rattle.std.specs.Prelude.{◌≤◌, ◌<◌, length};
 
 const SPACE: u8 = 32;

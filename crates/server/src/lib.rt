@@ -1,4 +1,5 @@
 // The server half: each call on a lent table, with its connection marks and an output. A call judges soundness, judges, and performs.
+#![tactic(auto)]
 ghost use Rattle.std.specs.Prelude.{◌≡◌, ◌&&◌, ℕ, List, []};
 ghost use Rattle.table.specs.Table.{lent, max_entries};
 ghost use Rattle.soundness.specs.Sound.{sound_table, sound_marks};
@@ -15,7 +16,7 @@ use scalar::Scalar;
 
 // Whether the table and the marks are sound. Heads and bytes go on as parts of themselves (docs/DECISIONS.md, Speed).
 pub fn is_sound(heads: &[u16], bytes: &[u8], count: u16, marks: &[u8]) -> bool
-    ensures { result ≡ (sound_table max_entries (lent heads.entry bytes.entry count) && sound_marks marks.now) }
+    ensures { result ≡ (sound_table max_entries (lent heads.now bytes.now count) && sound_marks marks.now) }
 {
     if !soundness::table_is_sound(&heads[0..], &bytes[0..], count) {
         return false;
@@ -27,8 +28,8 @@ pub fn is_sound(heads: &[u16], bytes: &[u8], count: u16, marks: &[u8]) -> bool
 
 // A connection opens.
 pub fn open(heads: &[u16], bytes: &[u8], count: u16, marks: &mut [u8], c: usize) -> Answer
-    ensures { answered result (lent_server heads.entry bytes.entry count marks.exit) []
-        ≡ step_with_place max_entries (lent_server heads.entry bytes.entry count marks.entry)
+    ensures { answered result (lent_server heads.now bytes.now count marks.new) []
+        ≡ step_with_place max_entries (lent_server heads.now bytes.now count marks.old)
         (record { call = open_connection c; output = [] }) }
 {
     if !is_sound(heads, bytes, count, marks) {
@@ -46,8 +47,8 @@ pub fn leave_connection(
     marks: &mut [u8],
     c: usize,
 ) -> Answer
-    ensures { answered result (lent_server heads.entry bytes.entry count marks.exit) []
-        ≡ step_with_place max_entries (lent_server heads.entry bytes.entry count marks.entry)
+    ensures { answered result (lent_server heads.now bytes.now count marks.new) []
+        ≡ step_with_place max_entries (lent_server heads.now bytes.now count marks.old)
         (record { call = leave c; output = [] }) }
 {
     if !is_sound(heads, bytes, count, marks) {
@@ -70,9 +71,9 @@ pub fn receive_when_sound(
     out: &mut [u8],
 ) -> Answer
     requires { SoundMemory max_entries (lent_server heads bytes count.old marks) }
-    ensures { answered result (lent_server heads.exit bytes.exit count.new marks.exit) out.new
-        ≡ step_with_place max_entries (lent_server heads.entry bytes.entry count.old marks.entry)
-        (lent_call (client_message c m.now) out.entry) }
+    ensures { answered result (lent_server heads.new bytes.new count.new marks.new) out.new
+        ≡ step_with_place max_entries (lent_server heads.old bytes.old count.old marks.old)
+        (lent_call (client_message c m.now) out.old) }
 {
     let decision = judge::judge_client_message(heads, bytes, *count, marks, c, m);
     perform::perform(heads, bytes, count, marks, c, m, decision, out)
@@ -88,9 +89,9 @@ pub fn receive(
     m: &[u8],
     out: &mut [u8],
 ) -> Answer
-    ensures { answered result (lent_server heads.exit bytes.exit count.new marks.exit) out.new
-        ≡ step_with_place max_entries (lent_server heads.entry bytes.entry count.old marks.entry)
-        (lent_call (client_message c m.now) out.entry) }
+    ensures { answered result (lent_server heads.new bytes.new count.new marks.new) out.new
+        ≡ step_with_place max_entries (lent_server heads.old bytes.old count.old marks.old)
+        (lent_call (client_message c m.now) out.old) }
 {
     if !is_sound(heads, bytes, *count, marks) {
         return answer::unsound();
@@ -109,9 +110,9 @@ pub fn create(
     value: &[u8],
     out: &mut [u8],
 ) -> Answer
-    ensures { answered result (lent_server heads.exit bytes.exit count.new marks.entry) out.new
-        ≡ step_with_place max_entries (lent_server heads.entry bytes.entry count.old marks.entry)
-        (lent_call (local_create name.now type_code value.now) out.entry) }
+    ensures { answered result (lent_server heads.new bytes.new count.new marks.now) out.new
+        ≡ step_with_place max_entries (lent_server heads.old bytes.old count.old marks.now)
+        (lent_call (local_create name.now type_code value.now) out.old) }
 {
     if !is_sound(heads, bytes, *count, marks) {
         return answer::unsound();
@@ -137,9 +138,9 @@ pub fn write(
     value: &[u8],
     out: &mut [u8],
 ) -> Answer
-    ensures { answered result (lent_server heads.exit bytes.exit count marks.entry) out.new
-        ≡ step_with_place max_entries (lent_server heads.entry bytes.entry count marks.entry)
-        (lent_call (local_write id value.now) out.entry) }
+    ensures { answered result (lent_server heads.new bytes.new count marks.now) out.new
+        ≡ step_with_place max_entries (lent_server heads.old bytes.old count marks.now)
+        (lent_call (local_write id value.now) out.old) }
 {
     if !is_sound(heads, bytes, count, marks) {
         return answer::unsound();
@@ -156,9 +157,9 @@ pub fn write(
 
 // Reading an entry. No marks are lent; the number is the step's, whatever the marks are.
 pub fn read(heads: &[u16], bytes: &[u8], count: u16, id: u16) -> Scalar
-    ensures scalar { result ≡ read_scalar max_entries (lent heads.entry bytes.entry count) id }
+    ensures scalar { result ≡ read_scalar max_entries (lent heads.now bytes.now count) id }
     ensures number { (marks : List ℕ) → number_of result
-        ≡ (call_step max_entries (record { table = lent heads.entry bytes.entry count; marks = marks })
+        ≡ (call_step max_entries (record { table = lent heads.now bytes.now count; marks = marks })
         (record { call = read_entry id; output = [] })).number }
 {
     if !soundness::table_is_sound(heads, bytes, count) {

@@ -1,5 +1,4 @@
 -- The bytes that the connections hold, as the code has them: how many each holds, and a slot for each.
-use Rattle.std.specs.Borrow.{Bor}
 use Rattle.std.specs.Prelude.{ℕ, zero, suc, ◌+◌, ◌*◌, ◌≤◌, ◌<◌, List, [], ◌∷◌, ◌++◌, ◌≡◌, length, take, drop, get_or}
 use Rattle.table.specs.Table.{max_entries}
 use Rattle.protocol.specs.Step.{ServerMemory}
@@ -26,8 +25,8 @@ abbrev pub state_in : ServerMemory → (sizes slots : List ℕ) → RunState
 state_in mem sizes slots = run_state mem (held_by recorded_connections sizes slots)
 
 -- as they are lent
-abbrev pub state_of : ServerMemory → (sizes slots : Bor (List ℕ)) → RunState
-state_of mem sizes slots = state_in mem sizes.now slots.now
+abbrev pub state_of : ServerMemory → (sizes slots : List ℕ) → RunState
+state_of mem sizes slots = state_in mem sizes slots
 
 -- a slot for each connection, which holds part of a message
 pub record Slots (sizes slots : List ℕ) : Type 0 where
@@ -41,5 +40,5 @@ pub record ReadyIn (mem : ServerMemory) (sizes slots : List ℕ) : Type 0 where
   pub slots_are : Slots sizes slots
 
 -- as they are lent
-abbrev pub Ready : ServerMemory → (sizes slots : Bor (List ℕ)) → Type 0
-Ready mem sizes slots = ReadyIn mem sizes.now slots.now
+abbrev pub Ready : ServerMemory → (sizes slots : List ℕ) → Type 0
+Ready mem sizes slots = ReadyIn mem sizes slots

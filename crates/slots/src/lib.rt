@@ -1,4 +1,5 @@
 // What the connections hold, a slot for each, and one record of a line record on it.
+#![tactic(auto)]
 ghost use Rattle.std.specs.Prelude.{◌≡◌, ◌≢◌, true, ◌≤◌, ◌<◌, length, set, eqb};
 ghost use Rattle.field.specs.Answer.{done};
 ghost use Rattle.field.specs.Choice.{pick};
@@ -42,11 +43,11 @@ fn bytes_came(
 )
     requires ready { Ready (lent_server heads bytes count.old marks) sizes slots }
     requires arrived { (c < recorded_connections) × (length arrived.now ≤ max_arrived) }
-    ensures state { state_of (lent_server heads.exit bytes.exit count.new marks.exit) sizes.exit slots.exit
+    ensures state { state_of (lent_server heads.new bytes.new count.new marks.new) sizes.new slots.new
         ≡ (step_record max_entries
-        (state_of (lent_server heads.entry bytes.entry count.old marks.entry) sizes.entry slots.entry)
+        (state_of (lent_server heads.old bytes.old count.old marks.old) sizes.old slots.old)
         (came c arrived.now)).state }
-    ensures ready { Ready (lent_server heads.exit bytes.exit count.new marks.exit) sizes.exit slots.exit }
+    ensures ready { Ready (lent_server heads.new bytes.new count.new marks.new) sizes.new slots.new }
 {
     let size = sizes[c];
     let from = SLOT_SIZE * c;
@@ -75,9 +76,9 @@ fn drop_held(sizes: &mut [usize], c: usize)
 fn connection_left(marks: &mut [u8], sizes: &mut [usize], c: usize)
     requires { (sound_marks marks.old ≡ true) × (length sizes.old ≡ recorded_connections) }
     ensures { (table : TableMemory) → sound_table max_entries table ≡ true →
-        (beside_marks table marks.exit ≡ (call_step max_entries (beside_marks table marks.entry) (without_output (leave c))).memory)
+        (beside_marks table marks.new ≡ (call_step max_entries (beside_marks table marks.old) (without_output (leave c))).memory)
         × (sizes.new
-        ≡ pick (eqb (call_step max_entries (beside_marks table marks.entry) (without_output (leave c))).number done)
+        ≡ pick (eqb (call_step max_entries (beside_marks table marks.old) (without_output (leave c))).number done)
         (set sizes.old c 0) sizes.old) }
 {
     if effect::leave(marks, c) == DONE {
@@ -100,11 +101,11 @@ pub fn step(
     requires ready { Ready (lent_server heads bytes count.old marks) sizes slots }
     requires arrived { length arrived.now ≤ max_arrived }
     requires connection { kind ≢ opens_kind → kind ≢ leaves_kind → c < recorded_connections }
-    ensures state { state_of (lent_server heads.exit bytes.exit count.new marks.exit) sizes.exit slots.exit
+    ensures state { state_of (lent_server heads.new bytes.new count.new marks.new) sizes.new slots.new
         ≡ (step_record max_entries
-        (state_of (lent_server heads.entry bytes.entry count.old marks.entry) sizes.entry slots.entry)
+        (state_of (lent_server heads.old bytes.old count.old marks.old) sizes.old slots.old)
         (record_of kind c arrived.now)).state }
-    ensures ready { Ready (lent_server heads.exit bytes.exit count.new marks.exit) sizes.exit slots.exit }
+    ensures ready { Ready (lent_server heads.new bytes.new count.new marks.new) sizes.new slots.new }
 {
     if kind == OPENS {
         effect::open(marks, c);

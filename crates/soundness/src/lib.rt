@@ -1,4 +1,5 @@
 // Whether lent memory is sound.
+#![tactic(auto)]
 ghost use Rattle.std.specs.Prelude.{◌≡◌, ◌+◌, ◌*◌, ◌<◌, ◌≤◌, length, ◌==◌};
 ghost use Rattle.field.specs.Choice.{pick};
 ghost use Rattle.message.specs.Layout.{max_name_length};
@@ -101,7 +102,7 @@ fn held_before(heads: &[u16], bytes: &[u8], i: usize, owner: u8) -> bool
     requires names { (i < several) × Named (i + 1) heads.now bytes.now }
     requires owner { Covers i (entry_at heads.now bytes.now) owner }
     ensures { result ≡ name_held (entry_at heads.now bytes.now i).name
-        (entries_of (lent heads.entry bytes.entry i)) }
+        (entries_of (lent heads.now bytes.now i)) }
 {
     if owner == 0 {
         return false;
@@ -130,7 +131,7 @@ pub fn next_owner(owner: u8, i: usize) -> u8
 fn all_differ(heads: &[u16], bytes: &[u8], count: usize, owners: &mut [u8]) -> bool
     requires names { (count ≤ several) × Named count heads.now bytes.now }
     requires owners { fingerprints ≤ length owners.old }
-    ensures { result ≡ names_differ (entries_of (lent heads.entry bytes.entry count)) }
+    ensures { result ≡ names_differ (entries_of (lent heads.now bytes.now count)) }
 {
     let mut i = 0;
     while i < count {
@@ -148,7 +149,7 @@ fn all_differ(heads: &[u16], bytes: &[u8], count: usize, owners: &mut [u8]) -> b
 // Whether the names of so many entries all differ, each looked at once.
 fn names_differ(heads: &[u16], bytes: &[u8], count: usize) -> bool
     requires { (count ≤ several) × Named count heads.now bytes.now }
-    ensures { result ≡ names_differ (entries_of (lent heads.entry bytes.entry count)) }
+    ensures { result ≡ names_differ (entries_of (lent heads.now bytes.now count)) }
 {
     if count < 2 {
         return true;
@@ -159,7 +160,7 @@ fn names_differ(heads: &[u16], bytes: &[u8], count: usize) -> bool
 
 // Whether a lent table is sound, with room for 64 entries. Heads and bytes go on as parts of themselves (docs/DECISIONS.md, Speed).
 pub fn table_is_sound(heads: &[u16], bytes: &[u8], count: u16) -> bool
-    ensures { result ≡ sound_table max_entries (lent heads.entry bytes.entry count) }
+    ensures { result ≡ sound_table max_entries (lent heads.now bytes.now count) }
 {
     if heads.len() < table::HEADS_SIZE {
         return false;

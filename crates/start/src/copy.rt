@@ -8,9 +8,9 @@ use answer::Answer;
 
 // The empty copy: only the count is set.
 pub fn copy_fresh(heads: &[u16], bytes: &[u8], count: &mut u16) -> Answer
-    ensures answer { result ≡ bare_answer (copy_fresh_start max_entries (lent heads.entry bytes.entry count.old)).number }
-    ensures memory { lent heads.entry bytes.entry count.new
-        ≡ (copy_fresh_start max_entries (lent heads.entry bytes.entry count.old)).memory }
+    ensures answer { result ≡ bare_answer (copy_fresh_start max_entries (lent heads.now bytes.now count.old)).number }
+    ensures memory { lent heads.now bytes.now count.new
+        ≡ (copy_fresh_start max_entries (lent heads.now bytes.now count.old)).memory }
 {
     if heads.len() < table::HEADS_SIZE {
         return answer::unsound();

@@ -1,4 +1,5 @@
 // The fresh starts: of the server's memory here, of a copy in `copy`.
+#![tactic(auto)]
 mod copy;
 
 ghost use Rattle.std.specs.Prelude.{◌≡◌, ◌≤◌, length, replicate};
@@ -25,9 +26,9 @@ fn close_all(marks: &mut [u8])
 
 // Memory for a fresh start: the count becomes 0, and all connections are closed.
 pub fn fresh(heads: &[u16], bytes: &[u8], count: &mut u16, marks: &mut [u8]) -> Answer
-    ensures answer { result ≡ bare_answer (fresh_start max_entries (lent_server heads.entry bytes.entry count.old marks.entry)).number }
-    ensures memory { lent_server heads.entry bytes.entry count.new marks.exit
-        ≡ (fresh_start max_entries (lent_server heads.entry bytes.entry count.old marks.entry)).memory }
+    ensures answer { result ≡ bare_answer (fresh_start max_entries (lent_server heads.now bytes.now count.old marks.old)).number }
+    ensures memory { lent_server heads.now bytes.now count.new marks.new
+        ≡ (fresh_start max_entries (lent_server heads.now bytes.now count.old marks.old)).memory }
 {
     if heads.len() < table::HEADS_SIZE {
         return answer::unsound();

@@ -1,4 +1,5 @@
 // What a verdict on a mark, a new entry or another value does: the answer, the output, and lent memory afterwards.
+#![tactic(auto)]
 ghost use Rattle.std.specs.Prelude.{◌≡◌, true, ℕ, ◌+◌, ◌≤◌, ◌<◌, List, length, set};
 ghost use Rattle.answer.specs.Answers.{done_answer};
 ghost use Rattle.table.specs.Table.{TableMemory, Holds, lent, store_entry, max_entries};
@@ -35,8 +36,8 @@ pub fn perform_mark(marks: &mut [u8], c: usize, decision: MarkDecision) -> Answe
     requires marks { connections ≤ length marks.old }
     requires performable { Markable c decision }
     ensures { (table : TableMemory) (out : List ℕ) →
-        answered result (beside_marks table marks.exit) out
-        ≡ execute_with_place (beside_marks table marks.entry) out (mark_verdict c decision) }
+        answered result (beside_marks table marks.new) out
+        ≡ execute_with_place (beside_marks table marks.old) out (mark_verdict c decision) }
 {
     match decision {
         MarkDecision::Refuse(fault) => answer::refused(fault),
@@ -59,9 +60,9 @@ pub fn add_entry(
     requires sound { sound_table max_entries (lent heads bytes count.old) ≡ true }
     requires room { count.old < max_entries }
     requires lengths { (length name.now ≤ max_name_length) × (length value.now ≤ max_value_size) }
-    ensures { lent heads.exit bytes.exit count.new
-        ≡ store_entry (lent heads.entry bytes.entry count.old)
-        (lent_entry name.entry type_code start value.entry) }
+    ensures { lent heads.new bytes.new count.new
+        ≡ store_entry (lent heads.old bytes.old count.old)
+        (lent_entry name.now type_code start value.now) }
 {
     let id = *count;
     let number = SequenceNumber::start();
@@ -93,9 +94,9 @@ pub fn store_new(
     requires room { count.old < max_entries }
     requires lengths { (length name.now ≤ max_name_length) × (length value.now ≤ max_value_size) }
     ensures { (marks : List ℕ) → recipients ≡ recipient_set all_greeted marks →
-        answered result (record { table = lent heads.exit bytes.exit count.new; marks = marks }) out.new
-        ≡ execute_with_place (record { table = lent heads.entry bytes.entry count.old; marks = marks }) out.old
-        (store_new (lent_entry name.entry type_code start value.entry) taken) }
+        answered result (record { table = lent heads.new bytes.new count.new; marks = marks }) out.new
+        ≡ execute_with_place (record { table = lent heads.old bytes.old count.old; marks = marks }) out.old
+        (store_new (lent_entry name.now type_code start value.now) taken) }
 {
     let id = *count;
     if out.len() < ASSIGNMENT_FIXED + name.len() + value.len() {
@@ -121,8 +122,8 @@ pub fn store_update(
     requires memory { Holds (id + 1) heads.old bytes.old }
     requires lengths { length value.now ≤ max_value_size }
     ensures { (count : ℕ) (marks : List ℕ) (to : Recipients) → recipients ≡ recipient_set to marks →
-        answered result (record { table = lent heads.exit bytes.exit count; marks = marks }) out.new
-        ≡ execute_with_place (record { table = lent heads.entry bytes.entry count; marks = marks }) out.old
+        answered result (record { table = lent heads.new bytes.new count; marks = marks }) out.new
+        ≡ execute_with_place (record { table = lent heads.old bytes.old count; marks = marks }) out.old
         (store_update id number value.now taken to) }
 {
     if out.len() < UPDATE_VALUE_START + value.len() {

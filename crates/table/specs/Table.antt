@@ -1,6 +1,5 @@
 -- The lent table: "64 entry heads beside their bytes".
 use Rattle.std.specs.Prelude.{ℕ, zero, suc, ◌+◌, ◌*◌, ◌≤◌, ◌<◌, List, [], ◌∷◌, ◌++◌, length, take, drop, get_or, set, ltb}
-use Rattle.std.specs.Borrow.{Bor}
 use Rattle.field.specs.Octets.{overwrite_at}
 use Rattle.message.specs.Layout.{Entry, max_name_length}
 use Rattle.message.specs.Reader.{parse_update}
@@ -40,8 +39,8 @@ abbrev pub table_memory : (heads bytes : List ℕ) (count : ℕ) → TableMemory
 table_memory heads bytes count = record { heads = heads; bytes = bytes; count = count }
 
 -- a table as it is lent to a call
-abbrev pub lent : (heads bytes : Bor (List ℕ)) (count : ℕ) → TableMemory
-lent heads bytes count = table_memory heads.now bytes.now count
+abbrev pub lent : (heads bytes : List ℕ) (count : ℕ) → TableMemory
+lent heads bytes count = table_memory heads bytes count
 
 -- "entry i's name starts at byte 320 x i, its value 64 bytes later"
 abbrev pub name_start : ℕ → ℕ

@@ -1,4 +1,5 @@
 // The lent table: its layout, what an entry has, the search over names, and storing.
+#![tactic(auto)]
 ghost use Rattle.std.specs.Prelude.{◌≡◌, true, false, List, ℕ, ◌+◌, ◌*◌, ◌≤◌, ◌<◌, length};
 ghost use Rattle.field.specs.Octets.{bytes_equal};
 ghost use Rattle.table.specs.Names.{holder};
@@ -122,7 +123,7 @@ fn alike(held: &[u8], name: &[u8]) -> bool
 // The ID of the first of so many entries whose name is equal, or their count where there is none.
 pub fn find_name(heads: &[u16], bytes: &[u8], count: usize, name: &[u8]) -> usize
     requires { Named count heads.now bytes.now }
-    ensures { result ≡ holder name.now (entries_of (lent heads.entry bytes.entry count)) }
+    ensures { result ≡ holder name.now (entries_of (lent heads.now bytes.now count)) }
 {
     let mut i = 0;
     let id = 'entries: loop {
@@ -149,7 +150,7 @@ pub fn find_name(heads: &[u16], bytes: &[u8], count: usize, name: &[u8]) -> usiz
 // An update of a held ID, read with its stored type. `bytes` is lent for the contract.
 pub fn read_held_update(heads: &[u16], bytes: &[u8], count: u16, m: &[u8]) -> UpdateRead
     requires { Readable count heads.now bytes.now }
-    ensures { result ≡ parse_held_update (entries_of (lent heads.entry bytes.entry count)) m.now }
+    ensures { result ≡ parse_held_update (entries_of (lent heads.now bytes.now count)) m.now }
 {
     let Number::There(id) = reader::number_at(m, message::KIND_SIZE) else {
         return UpdateRead::Refused(field::fault_at(INCOMPLETE, message::KIND_SIZE));
@@ -176,9 +177,9 @@ pub fn store_entry(
     requires memory { Holds (id + 1) heads.old bytes.old }
     requires lengths { (length name.now ≤ max_name_length) × (length value.now ≤ max_value_size) }
     ensures heads { heads.new
-        ≡ heads_with_entry heads.old id (lent_entry name.entry type_code number value.entry) }
+        ≡ heads_with_entry heads.old id (lent_entry name.now type_code number value.now) }
     ensures bytes { bytes.new
-        ≡ bytes_with_entry bytes.old id (lent_entry name.entry type_code number value.entry) }
+        ≡ bytes_with_entry bytes.old id (lent_entry name.now type_code number value.now) }
 {
     let head = HEAD_SIZE * id;
     let name_at = ENTRY_SIZE * id;

@@ -1,4 +1,5 @@
 // A table as lines of text in a lent buffer.
+#![tactic(auto)]
 ghost use Rattle.std.specs.Prelude.{◌≡◌, ◌∷◌, [], ◌+◌, ◌/◌, ◌%◌, ◌≤◌, take};
 ghost use Rattle.message.specs.Lent.{lent_entry};
 ghost use Rattle.table.specs.Table.{entry_at, lent, entries_of, Readable};
@@ -195,7 +196,7 @@ fn put_line(
     number: usize,
     value: &[u8],
 ) -> usize
-    ensures { Put text.old at (entry_text id (lent_entry name.entry type_code number value.entry))
+    ensures { Put text.old at (entry_text id (lent_entry name.now type_code number value.now))
         text.new result }
 {
     let e1 = digits::put_decimal(text, at, id);
@@ -236,7 +237,7 @@ fn put_refused(text: &mut [u8], at: usize, number: u8) -> usize
 // Puts the table at the end of a run, and what ended it, at the start of a buffer.
 pub fn put_table(heads: &[u16], bytes: &[u8], count: u16, number: u8, text: &mut [u8]) -> usize
     requires { Readable count heads.now bytes.now }
-    ensures { Put text.old 0 (end_text number (entries_of (lent heads.entry bytes.entry count)))
+    ensures { Put text.old 0 (end_text number (entries_of (lent heads.now bytes.now count)))
         text.new result }
 {
     let mut end = 0;

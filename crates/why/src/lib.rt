@@ -1,4 +1,5 @@
 // Why a client's message is done, ignored or refused: the verdict by which the call itself goes, explained.
+#![tactic(auto)]
 ghost use Rattle.std.specs.Prelude.{◌≡◌, true, get_or};
 ghost use Rattle.table.specs.Table.{lent, entries_of, max_entries};
 ghost use Rattle.soundness.specs.Sound.{sound_table};
@@ -36,7 +37,7 @@ fn why_number(stored: u16, received: u16) -> Reason
 fn why_ignored(heads: &[u16], bytes: &[u8], count: u16, m: &[u8]) -> Reason
     requires sound { sound_table max_entries (lent heads bytes count) ≡ true }
     requires ignored { ReadAgain count m.now }
-    ensures { result ≡ ignored_reason (entries_of (lent heads.entry bytes.entry count)) (get_or m.now 0 0) m.now }
+    ensures { result ≡ ignored_reason (entries_of (lent heads.now bytes.now count)) (get_or m.now 0 0) m.now }
 {
     let kind = m[0];
     if kind == message::KEEP_ALIVE {
@@ -56,7 +57,7 @@ fn why_ignored(heads: &[u16], bytes: &[u8], count: u16, m: &[u8]) -> Reason
 
 // A message m of connection c.
 pub fn why(heads: &[u16], bytes: &[u8], count: u16, marks: &[u8], c: usize, m: &[u8]) -> Reason
-    ensures { result ≡ why max_entries (lent_server heads.entry bytes.entry count marks.entry) c m.now }
+    ensures { result ≡ why max_entries (lent_server heads.now bytes.now count marks.now) c m.now }
 {
     if !server::is_sound(heads, bytes, count, marks) {
         return Reason::Refused(fault_at(UNSOUND, 0));
@@ -167,7 +168,7 @@ pub fn why_answer(
     m: &[u8],
 ) -> ReasonAnswer
     ensures { result ≡ reason_answer
-        (why max_entries (lent_server flat.entry bytes.entry count.now marks.entry) connection m.now) }
+        (why max_entries (lent_server flat.now bytes.now count.now marks.now) connection m.now) }
 {
     let reason = why(flat, bytes, *count, marks, connection, m);
     answer_reason(reason)

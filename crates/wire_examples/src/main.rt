@@ -1,5 +1,6 @@
 // Both sides of every limit, the UTF-8 cases, the comparisons P1 to P10, messages of all kinds, whole, cut and damaged, and as
 // the writer makes them. Each line of standard input is a case, and is printed with its answer; see `script` for its bytes.
+#![tactic(auto)]
 mod cases;
 mod print;
 mod writing;

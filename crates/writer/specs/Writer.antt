@@ -1,6 +1,5 @@
 -- "The message writer takes fields and checks kind (4), name, type, value, room (12); fields that the kind lacks are not looked at."
 use Rattle.std.specs.Prelude.{ℕ, ◌≤◌, List, [], length, leb, eqb}
-use Rattle.std.specs.Borrow.{Bor}
 use Rattle.field.specs.Answer.{done, unknown_kind, not_utf8, too_long, output_too_short}
 use Rattle.field.specs.Choice.{pick, demand}
 use Rattle.field.specs.Octets.{overwrite_at}
@@ -25,9 +24,9 @@ pub record Fields : Type 0 where
   pub value : List ℕ
 
 -- the same with name and value as they are lent
-abbrev pub lent_fields : (kind revision : ℕ) → Bor (List ℕ) → (type id number : ℕ) → Bor (List ℕ) → Fields
+abbrev pub lent_fields : (kind revision : ℕ) → List ℕ → (type id number : ℕ) → List ℕ → Fields
 lent_fields kind revision name type id number value =
-    record { kind = kind; revision = revision; name = name.now; type = type; id = id; number = number; value = value.now }
+    record { kind = kind; revision = revision; name = name; type = type; id = id; number = number; value = value }
 
 -- the entry that the fields of an assignment make
 abbrev pub given_entry : Fields → Entry

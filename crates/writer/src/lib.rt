@@ -1,4 +1,5 @@
 // The message writer of Protocol Revision 2.0: fields are checked, and their message is written.
+#![tactic(auto)]
 ghost use Rattle.std.specs.Prelude.{◌≡◌, ℕ, length};
 ghost use Rattle.field.specs.Octets.{overwrite_at};
 ghost use Rattle.message.specs.Lent.{lent_entry};
@@ -29,7 +30,7 @@ pub fn check_name(name: &[u8]) -> Parsed
 
 fn check_assignment(name: &[u8], type_code: u8, value: &[u8]) -> Parsed
     ensures { (id number : ℕ) →
-        result ≡ needed_for (check_assignment id (lent_entry name.entry type_code number value.entry)) }
+        result ≡ needed_for (check_assignment id (lent_entry name.now type_code number value.now)) }
 {
     let checked_name = check_name(name);
     let Parsed::Taken(n) = checked_name else {
@@ -57,7 +58,7 @@ fn check_update(type_code: u8, value: &[u8]) -> Parsed
 // The fields that a kind has.
 fn check_fields(kind: u8, name: &[u8], type_code: u8, value: &[u8]) -> Parsed
     ensures { (revision id number : ℕ) →
-        result ≡ needed_for (check (lent_fields kind revision name.entry type_code id number value.entry)) }
+        result ≡ needed_for (check (lent_fields kind revision name.now type_code id number value.now)) }
 {
     match kind {
         KEEP_ALIVE => Parsed::Taken(KIND_SIZE),
@@ -84,10 +85,10 @@ fn write_checked(
     out: &mut [u8],
 ) -> usize
     requires { Ready (length out.old) (check (lent_fields kind revision name type_code id number value)) }
-    ensures sent { result ≡ length (bytes_of (check (lent_fields kind revision name.entry type_code id number value.entry))) }
+    ensures sent { result ≡ length (bytes_of (check (lent_fields kind revision name.now type_code id number value.now))) }
     ensures output { out.new
         ≡ overwrite_at out.old 0
-        (bytes_of (check (lent_fields kind revision name.entry type_code id number value.entry))) }
+        (bytes_of (check (lent_fields kind revision name.now type_code id number value.now))) }
 {
     match kind {
         KEEP_ALIVE => encoder::write_kind(out, KEEP_ALIVE),
@@ -112,7 +113,7 @@ pub fn write_message(
     out: &mut [u8],
 ) -> Answer
     ensures { written result out.new
-        ≡ write_with_place (check (lent_fields kind revision name.entry type_code id number value.entry))
+        ≡ write_with_place (check (lent_fields kind revision name.now type_code id number value.now))
         out.old }
 {
     let needed = check_fields(kind, name, type_code, value);
