@@ -1,5 +1,6 @@
 // What a call answers with.
 #![tactic(auto)]
+
 ghost use Rattle.std.specs.Prelude.{◌≡◌};
 ghost use Rattle.field.specs.Answer.{output_too_short, unsound};
 ghost use Rattle.answer.specs.Answers.{bare_answer, refused_answer, ignored_answer, done_answer, goes_on};

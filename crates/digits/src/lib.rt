@@ -1,5 +1,6 @@
 // Text in a lent buffer: bytes, and numbers as digits.
 #![tactic(auto)]
+
 ghost use Rattle.std.specs.Prelude.{◌≡◌, ◌∷◌, [], ◌<◌};
 ghost use Rattle.digits.specs.Digits.{decimal_text, hex_digit, hex_text};
 ghost use Rattle.digits.specs.Put.{Put};

@@ -1,5 +1,6 @@
 // Fields of a fixed width, read from a lent message and written into a lent output.
 #![tactic(auto)]
+
 ghost use Rattle.std.specs.Prelude.{◌≡◌, ◌&&◌, ◌∷◌, [], eqb, ◌+◌, ◌^◌, ◌≤◌, ◌<◌, length, drop};
 ghost use Rattle.field.specs.Octets.{decode16, encode16, overwrite_at, bytes_equal};
 ghost use Rattle.field.specs.Field.{fault_at, fault_of, octet_size, octet_at, number_size, number_at, moved_by};

@@ -1,5 +1,6 @@
 // The sequence number of an entry: serial number arithmetic (RFC 1982) with 16 bits.
 #![tactic(auto)]
+
 ghost use Rattle.std.specs.Prelude.{◌≡◌};
 ghost use Rattle.sequence.specs.SequenceNumber.{start, next_number, distance, passed_by};
 

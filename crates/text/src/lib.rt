@@ -1,5 +1,6 @@
 // A text behind its length.
 #![tactic(auto)]
+
 ghost use Rattle.std.specs.Prelude.{◌≡◌};
 ghost use Rattle.text.specs.Text.{parse_text};
 

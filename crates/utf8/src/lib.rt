@@ -1,5 +1,6 @@
 // UTF-8 (RFC 3629).
 #![tactic(auto)]
+
 ghost use Rattle.std.specs.Prelude.{◌≡◌, true, ◌&&◌, ◌+◌, ◌≤◌, leb, length};
 ghost use Rattle.utf8.specs.Utf8.{after_first, after_byte, is_boundary, is_utf8, Ascii};
 
