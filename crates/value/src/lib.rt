@@ -1,5 +1,6 @@
 // Values as their encoded bytes: all six types, as a field of a message and as a lone value.
 #![tactic(auto)]
+
 ghost use Rattle.std.specs.Prelude.{◌≡◌, ◌≤◌, length, drop};
 ghost use Rattle.value.specs.Value.{known_type, parse_boolean, parse_double, parse_element};
 ghost use Rattle.value.specs.Value.{count_size, count_fits, elements, parse_array, parse_value, parse_lone};
