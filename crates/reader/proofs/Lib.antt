@@ -1,3 +1,0 @@
-pub mod Walk
-pub mod Reading
-pub mod Plain

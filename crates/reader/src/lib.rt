@@ -1,6 +1,7 @@
 // The message with the place reached so far. The functions over it are thin: each takes it apart and calls a covered one.
 // Those at the end take a plain slice and a place, so their callers need no walk.
 #![tactic(auto)]
+
 ghost use Rattle.std.specs.Prelude.{◌≡◌, drop};
 ghost use Rattle.field.specs.Field.{octet_at, number_at};
 ghost use Rattle.reader.specs.Reader.{parse_text_at, parse_value_at};
