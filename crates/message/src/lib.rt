@@ -1,5 +1,6 @@
 // The reader of one message of Protocol Revision 2.0.
 #![tactic(auto)]
+
 ghost use Rattle.std.specs.Prelude.{◌≡◌, ◌+◌, ◌≤◌, length};
 ghost use Rattle.message.specs.Layout.{assignment_name_start, number_behind_name};
 ghost use Rattle.message.specs.Reader.{id_allowed, parse_behind_id, parse_after_name, parse_assignment};
