@@ -1,5 +1,6 @@
 // A Double as text in a lent buffer.
 #![tactic(auto)]
+
 ghost use Rattle.std.specs.Prelude.{◌≡◌, ◌++◌, ◌^◌, ◌≤◌, ◌<◌, max, get_or};
 ghost use Rattle.field.specs.Octets.{decode16};
 ghost use Rattle.digits.specs.Digits.{decimal_text};

@@ -1,5 +1,6 @@
 // The bytes of each message of Protocol Revision 2.0, at the start of the output; each function answers how many they are.
 #![tactic(auto)]
+
 ghost use Rattle.std.specs.Prelude.{◌≡◌, ◌∷◌, [], ◌+◌, ◌≤◌, length};
 ghost use Rattle.field.specs.Octets.{overwrite_at};
 ghost use Rattle.message.specs.Layout.{assignment_bytes, update_bytes, revision_bytes};

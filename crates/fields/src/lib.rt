@@ -1,5 +1,6 @@
 // A message's fields as C's struct. No table is lent.
 #![tactic(auto)]
+
 ghost use Rattle.std.specs.Prelude.{◌≡◌, ◌≤◌};
 ghost use Rattle.field.specs.Answer.{done};
 ghost use Rattle.field.specs.Place.{reported_place};

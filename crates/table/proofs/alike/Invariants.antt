@@ -1,0 +1,16 @@
+use mathlib.Core.Path.{◌≡◌, refl, sym, ◌∙◌}
+use mathlib.Core.Bool.{◌&&◌, false≢true}
+use Prim.Native.Nat.{◌≤◌, ◌-◌}
+use native.Mathlib.Omega.{arith}
+use borrow.Author.Rules.{rules}
+use lib.ListN.{length, drop}
+use Rattle.field.specs.Octets.{bytes_equal}
+use Rattle.field.proofs.EqualLaws.{bytes_equal_length, equal_step}
+use Rattle.table.proofs.alike.Given as goal
+
+abbrev pub invariant-loop-k : goal.invariant-loop-k
+invariant-loop-k l =
+    (l.k ≤ 16) × (bytes_equal l.held l.name ≡ (l.equal && bytes_equal (drop l.k l.held) (drop l.k l.name)))
+
+abbrev pub decreases-loop-k : goal.decreases-loop-k
+decreases-loop-k l = 16 - l.k

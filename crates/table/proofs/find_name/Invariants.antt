@@ -1,0 +1,28 @@
+use mathlib.Core.Path.{◌≡◌, refl, sym, ap, ◌∙◌}
+use mathlib.Core.Bool.{Bool, true, false, ◌&&◌, and-true}
+use mathlib.Core.List.{List}
+use mathlib.Core.Logic.{⊎_elim}
+use Prim.Native.Nat.{ℕ, ◌-◌, ◌≤◌, ◌<◌}
+use native.Mathlib.Omega.{arith}
+use lib.ListN.{length, drop}
+use borrow.Author.Count.{below_more}
+use borrow.Author.Rules.{rules}
+use Rattle.field.specs.Octets.{bytes_equal}
+use Rattle.table.specs.Table.{entry_at, entries_of}
+use Rattle.field.proofs.EqualLaws.{equal_step, equal_end}
+use Rattle.table.proofs.SearchLaws.{has_name, holder_below, holder_at}
+use Rattle.table.proofs.find_name.Given as goal
+
+abbrev pub invariant-loop-k : goal.invariant-loop-k
+invariant-loop-k l =
+    (l.k ≤ length l.name) × (bytes_equal l.held l.name ≡ (l.equal && bytes_equal (drop l.k l.held) (drop l.k l.name)))
+
+abbrev pub decreases-loop-k : goal.decreases-loop-k
+decreases-loop-k l = length l.name - l.k
+
+abbrev pub invariant-entries : goal.invariant-entries
+invariant-entries l =
+    (l.i ≤ l.count) × ((j : ℕ) → j < l.i → bytes_equal (entry_at l.heads l.bytes j).name l.name ≡ false)
+
+abbrev pub decreases-entries : goal.decreases-entries
+decreases-entries l = l.count - l.i
