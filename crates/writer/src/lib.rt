@@ -84,7 +84,7 @@ fn write_checked(
     value: &[u8],
     out: &mut [u8],
 ) -> usize
-    requires { Ready (length out.old) (check (lent_fields kind revision name type_code id number value)) }
+    requires { Ready (length out.old) (check (lent_fields kind revision name.now type_code id number value.now)) }
     ensures sent { result ≡ length (bytes_of (check (lent_fields kind revision name.now type_code id number value.now))) }
     ensures output { out.new
         ≡ overwrite_at out.old 0
