@@ -1,5 +1,6 @@
 // The message writer of Protocol Revision 2.0: fields are checked, and their message is written.
 #![tactic(auto)]
+
 ghost use Rattle.std.specs.Prelude.{◌≡◌, ℕ, length};
 ghost use Rattle.field.specs.Octets.{overwrite_at};
 ghost use Rattle.message.specs.Lent.{lent_entry};
