@@ -104,7 +104,7 @@ pub enum CopyDecision {
 
 // An assignment: a new entry with the ID that comes next, stored with its number.
 fn judge_assignment(heads: &[u16], bytes: &[u8], count: u16, m: &[u8]) -> CopyDecision
-    requires { sound_table max_entries (lent heads bytes count) ≡ true }
+    requires { sound_table max_entries (lent heads.now bytes.now count) ≡ true }
     ensures { DecidesCopy count m.now result
         (judge_copy_assignment max_entries (entries_of (lent heads.now bytes.now count)) m.now
         (parse_assignment (id_allowed (AllowedId.Only count)) m.now)) }
@@ -138,7 +138,7 @@ fn judge_assignment(heads: &[u16], bytes: &[u8], count: u16, m: &[u8]) -> CopyDe
 
 // An update of a held ID: always stored.
 fn judge_update(heads: &[u16], bytes: &[u8], count: u16, m: &[u8]) -> CopyDecision
-    requires { sound_table max_entries (lent heads bytes count) ≡ true }
+    requires { sound_table max_entries (lent heads.now bytes.now count) ≡ true }
     ensures { DecidesCopy count m.now result
         (judge_copy_update m.now
         (parse_held_update (entries_of (lent heads.now bytes.now count)) m.now)) }
@@ -172,7 +172,7 @@ fn judge_unsupported(m: &[u8]) -> CopyDecision
 
 // One message, in a sound copy.
 fn judge_copy(heads: &[u16], bytes: &[u8], count: u16, m: &[u8]) -> CopyDecision
-    requires { sound_table max_entries (lent heads bytes count) ≡ true }
+    requires { sound_table max_entries (lent heads.now bytes.now count) ≡ true }
     ensures { DecidesCopy count m.now result
         (judge_copy max_entries (entries_of (lent heads.now bytes.now count)) m.now) }
 {
@@ -242,7 +242,7 @@ fn perform(
     m: &[u8],
     decision: CopyDecision,
 ) -> Copied
-    requires sound { sound_table max_entries (lent heads bytes count.old) ≡ true }
+    requires sound { sound_table max_entries (lent heads.old bytes.old count.old) ≡ true }
     requires performable { Copyable count.old m.now decision }
     ensures { copied result (lent heads.new bytes.new count.new)
         ≡ execute_copy_with_place (lent heads.old bytes.old count.old) (copy_verdict_of m.now decision) }

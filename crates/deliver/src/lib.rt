@@ -73,7 +73,7 @@ fn deliver_messages(
     input: &[u8],
     out: &mut [u8],
 ) -> Delivered
-    requires { SoundMemory max_entries (lent_server heads bytes count.old marks) }
+    requires { SoundMemory max_entries (lent_server heads.old bytes.old count.old marks.old) }
     ensures { delivered result (lent_server heads.new bytes.new count.new marks.new) out.new
         ≡ deliver_at_most max_messages max_entries (lent_server heads.old bytes.old count.old marks.old)
         c input.now out.old }

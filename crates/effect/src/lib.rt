@@ -67,7 +67,7 @@ fn apply(
     m: &[u8],
     decision: Decision,
 ) -> Outcome
-    requires sound { sound_table max_entries (lent heads bytes count.old) ≡ true }
+    requires sound { sound_table max_entries (lent heads.old bytes.old count.old) ≡ true }
     requires marks { connections ≤ length marks.old }
     requires performable { Performable count.old c m.now decision }
     ensures { effected result (lent_server heads.new bytes.new count.new marks.new)
@@ -124,7 +124,7 @@ pub fn receive(
     c: usize,
     m: &[u8],
 ) -> Outcome
-    requires { SoundMemory max_entries (lent_server heads bytes count.old marks) }
+    requires { SoundMemory max_entries (lent_server heads.old bytes.old count.old marks.old) }
     ensures { effected result (lent_server heads.new bytes.new count.new marks.new)
         ≡ effect_of (call_step max_entries (lent_server heads.old bytes.old count.old marks.old)
         (with_output max_entries (client_message c m.now))) }
@@ -144,7 +144,7 @@ pub fn create(
     type_code: u8,
     value: &[u8],
 ) -> u8
-    requires { sound_table max_entries (lent heads bytes count.old) ≡ true }
+    requires { sound_table max_entries (lent heads.old bytes.old count.old) ≡ true }
     ensures { (marks : List ℕ) → sound_marks marks ≡ true →
         record { number = result; taken = 0; memory = record { table = lent heads.new bytes.new count.new; marks = marks } }
         ≡ effect_of (call_step max_entries (record { table = lent heads.old bytes.old count.old; marks = marks })
@@ -161,7 +161,7 @@ pub fn create(
 
 // Local write.
 pub fn write(heads: &mut [u16], bytes: &mut [u8], count: u16, id: u16, value: &[u8]) -> u8
-    requires { sound_table max_entries (lent heads bytes count) ≡ true }
+    requires { sound_table max_entries (lent heads.old bytes.old count) ≡ true }
     ensures { (marks : List ℕ) → sound_marks marks ≡ true →
         record { number = result; taken = 0; memory = record { table = lent heads.new bytes.new count; marks = marks } }
         ≡ effect_of (call_step max_entries (record { table = lent heads.old bytes.old count; marks = marks })

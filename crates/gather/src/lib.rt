@@ -31,7 +31,7 @@ fn message(
     c: usize,
     m: &[u8],
 ) -> Outcome
-    requires { SoundMemory max_entries (lent_server heads bytes count.old marks) }
+    requires { SoundMemory max_entries (lent_server heads.old bytes.old count.old marks.old) }
     ensures { effected result (lent_server heads.new bytes.new count.new marks.new)
         ≡ message_effect max_entries (lent_server heads.old bytes.old count.old marks.old) c m.now }
 {
@@ -72,7 +72,7 @@ fn settle(
     c: usize,
     held: &[u8],
 ) -> usize
-    requires { SoundMemory max_entries (lent_server heads bytes count.old marks) }
+    requires { SoundMemory max_entries (lent_server heads.old bytes.old count.old marks.old) }
     ensures kept { keeping (lent_server heads.new bytes.new count.new marks.new) (drop result held.now)
         ≡ (settle (length held.now) max_entries
         (lent_server heads.old bytes.old count.old marks.old) c held.now).kept }
@@ -123,7 +123,7 @@ pub fn gather(
     size: usize,
     arrived: &[u8],
 ) -> usize
-    requires sound { SoundMemory max_entries (lent_server heads bytes count.old marks) }
+    requires sound { SoundMemory max_entries (lent_server heads.old bytes.old count.old marks.old) }
     requires room { (size ≤ longest_incomplete) × (length arrived.now ≤ max_arrived)
         × (length slot.old ≡ longest_incomplete + max_arrived) }
     ensures kept { keeping (lent_server heads.new bytes.new count.new marks.new) (take result slot.new)

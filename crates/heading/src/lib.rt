@@ -44,7 +44,7 @@ pub fn receive_with_heading(
     input: &[u8],
     out: &mut [u8],
 ) -> Answer
-    requires { SoundMemory max_entries (lent_server heads bytes count.old marks) }
+    requires { SoundMemory max_entries (lent_server heads.old bytes.old count.old marks.old) }
     ensures { answered result (lent_server heads.new bytes.new count.new marks.new) out.new
         ≡ message_with_place max_entries (lent_server heads.old bytes.old count.old marks.old)
         c input.now out.old }

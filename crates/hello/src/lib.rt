@@ -1,5 +1,6 @@
 // The answer to a hello.
 #![tactic(auto)]
+
 ghost use Rattle.std.specs.Prelude.{◌≡◌, ◌+◌, ◌*◌, ◌≤◌, ◌<◌, length};
 ghost use Rattle.field.specs.Octets.{overwrite_at};
 ghost use Rattle.message.specs.Layout.{assignment_bytes};
@@ -48,7 +49,7 @@ fn write_entry(heads: &[u16], bytes: &[u8], id: u16, out: &mut [u8]) -> usize
 // Writes the answer at the start of out, each message into the rest of the output, and returns its length.
 pub fn write_hello(heads: &[u16], bytes: &[u8], count: u16, out: &mut [u8]) -> usize
     requires entries { Readable count heads.now bytes.now }
-    requires room { length (hello_answer 0 (entries_of (lent heads bytes count))) ≤ length out.old }
+    requires room { length (hello_answer 0 (entries_of (lent heads.now bytes.now count))) ≤ length out.old }
     ensures length { result ≡ length (hello_answer 0 (entries_of (lent heads.now bytes.now count))) }
     ensures output { out.new
         ≡ overwrite_at out.old 0 (hello_answer 0 (entries_of (lent heads.now bytes.now count))) }

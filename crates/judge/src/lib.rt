@@ -63,7 +63,7 @@ fn judge_hello(mark: u8, m: &[u8]) -> Decision
 }
 
 fn judge_assignment(heads: &[u16], bytes: &[u8], count: u16, m: &[u8]) -> Decision
-    requires { sound_table max_entries (lent heads bytes count) ≡ true }
+    requires { sound_table max_entries (lent heads.now bytes.now count) ≡ true }
     ensures { (c : ℕ) → Decides count c m.now result
         (judge_assignment max_entries (entries_of (lent heads.now bytes.now count)) m.now
         (parse_assignment (id_allowed (AllowedId.Only new_id)) m.now)) }
@@ -96,7 +96,7 @@ fn judge_assignment(heads: &[u16], bytes: &[u8], count: u16, m: &[u8]) -> Decisi
 }
 
 fn judge_update(heads: &[u16], bytes: &[u8], count: u16, m: &[u8]) -> Decision
-    requires { sound_table max_entries (lent heads bytes count) ≡ true }
+    requires { sound_table max_entries (lent heads.now bytes.now count) ≡ true }
     ensures { (c : ℕ) → Decides count c m.now result
         (judge_update c (entries_of (lent heads.now bytes.now count)) m.now
         (parse_held_update (entries_of (lent heads.now bytes.now count)) m.now)) }
@@ -124,7 +124,7 @@ fn judge_update(heads: &[u16], bytes: &[u8], count: u16, m: &[u8]) -> Decision
 
 // A message of a connection that is open or greeted.
 fn judge_message(heads: &[u16], bytes: &[u8], count: u16, mark: u8, m: &[u8]) -> Decision
-    requires { sound_table max_entries (lent heads bytes count) ≡ true }
+    requires { sound_table max_entries (lent heads.now bytes.now count) ≡ true }
     ensures { (c : ℕ) → c < connections → Decides count c m.now result
         (judge_message max_entries (entries_of (lent heads.now bytes.now count)) c mark m.now) }
 {
@@ -161,7 +161,7 @@ pub fn judge_client_message(
     c: usize,
     m: &[u8],
 ) -> Decision
-    requires sound { sound_table max_entries (lent heads bytes count) ≡ true }
+    requires sound { sound_table max_entries (lent heads.now bytes.now count) ≡ true }
     requires marks { connections ≤ length marks.now }
     ensures { Decides count c m.now result
         (judge max_entries (entries_of (lent heads.now bytes.now count)) marks.now
@@ -234,7 +234,7 @@ pub fn judge_create(
     type_code: u8,
     value: &[u8],
 ) -> CreateDecision
-    requires { sound_table max_entries (lent heads bytes count) ≡ true }
+    requires { sound_table max_entries (lent heads.now bytes.now count) ≡ true }
     ensures { (marks : List ℕ) →
         DecidesCreate count name.now type_code value.now result
         (judge max_entries (entries_of (lent heads.now bytes.now count)) marks
@@ -268,7 +268,7 @@ pub enum WriteDecision {
 
 // Local write, in a sound table.
 pub fn judge_write(heads: &[u16], bytes: &[u8], count: u16, id: u16, value: &[u8]) -> WriteDecision
-    requires { sound_table max_entries (lent heads bytes count) ≡ true }
+    requires { sound_table max_entries (lent heads.now bytes.now count) ≡ true }
     ensures { (marks : List ℕ) →
         DecidesWrite count id value.now result
         (judge max_entries (entries_of (lent heads.now bytes.now count)) marks

@@ -23,7 +23,7 @@ fn greet(
     c: usize,
     out: &mut [u8],
 ) -> Answer
-    requires sound { (c < connections) × (sound_table max_entries (lent heads bytes count) ≡ true) }
+    requires sound { (c < connections) × (sound_table max_entries (lent heads.now bytes.now count) ≡ true) }
     requires marks { connections ≤ length marks.old }
     ensures { answered result (lent_server heads.now bytes.now count marks.new) out.new
         ≡ execute_with_place (lent_server heads.now bytes.now count marks.old) out.old (accept_hello c) }
@@ -67,7 +67,7 @@ pub fn perform(
     decision: Decision,
     out: &mut [u8],
 ) -> Answer
-    requires sound { sound_table max_entries (lent heads bytes count.old) ≡ true }
+    requires sound { sound_table max_entries (lent heads.old bytes.old count.old) ≡ true }
     requires marks { connections ≤ length marks.old }
     requires performable { Performable count.old c m.now decision }
     ensures { answered result (lent_server heads.new bytes.new count.new marks.new) out.new

@@ -40,7 +40,7 @@ fn taken(number: u8, size: usize) -> usize
 
 // An assignment is a local create.
 fn create(heads: &mut [u16], bytes: &mut [u8], count: &mut u16, m: &[u8]) -> Outcome
-    requires { sound_table max_entries (lent heads bytes count.old) ≡ true }
+    requires { sound_table max_entries (lent heads.old bytes.old count.old) ≡ true }
     ensures { (marks : List ℕ) → sound_marks marks ≡ true →
         effected result (record { table = lent heads.new bytes.new count.new; marks = marks })
         ≡ plant_effect max_entries (record { table = lent heads.old bytes.old count.old; marks = marks })
@@ -67,7 +67,7 @@ fn create(heads: &mut [u16], bytes: &mut [u8], count: &mut u16, m: &[u8]) -> Out
 
 // An update is a local write.
 fn write(heads: &mut [u16], bytes: &mut [u8], count: u16, m: &[u8]) -> Outcome
-    requires { sound_table max_entries (lent heads bytes count) ≡ true }
+    requires { sound_table max_entries (lent heads.old bytes.old count) ≡ true }
     ensures { (marks : List ℕ) → sound_marks marks ≡ true →
         effected result (record { table = lent heads.new bytes.new count; marks = marks })
         ≡ plant_effect max_entries (record { table = lent heads.old bytes.old count; marks = marks })
@@ -89,7 +89,7 @@ fn write(heads: &mut [u16], bytes: &mut [u8], count: u16, m: &[u8]) -> Outcome
 
 // The message that stands first. No mark is looked at.
 pub fn receive_local(heads: &mut [u16], bytes: &mut [u8], count: &mut u16, m: &[u8]) -> Outcome
-    requires { sound_table max_entries (lent heads bytes count.old) ≡ true }
+    requires { sound_table max_entries (lent heads.old bytes.old count.old) ≡ true }
     ensures { (marks : List ℕ) → sound_marks marks ≡ true →
         effected result (record { table = lent heads.new bytes.new count.new; marks = marks })
         ≡ plant_effect max_entries (record { table = lent heads.old bytes.old count.old; marks = marks })

@@ -1,5 +1,6 @@
 // The set of recipients.
 #![tactic(auto)]
+
 ghost use Rattle.std.specs.Prelude.{◌≡◌, ◌&&◌, not, ◌≤◌, ◌<◌, length, eqb};
 ghost use Rattle.field.specs.Choice.{pick};
 ghost use Rattle.recipients.specs.Recipients.{sender, other_greeted, recipient_set};

@@ -125,7 +125,7 @@ pub fn advance(
     slots: &mut [u8],
     s: &[u8],
 ) -> Progress
-    requires { Ready (lent_server heads bytes count.old marks) sizes slots }
+    requires { Ready (lent_server heads.old bytes.old count.old marks.old) sizes.old slots.old }
     ensures answer { ProgressIs result (advance max_entries
         (state_of (lent_server heads.old bytes.old count.old marks.old) sizes.old slots.old)
         s.now)
@@ -188,7 +188,7 @@ fn run(
     slots: &mut [u8],
     recorded: &[u8],
 ) -> Replayed
-    requires { Ready (lent_server heads bytes count.old marks) sizes slots }
+    requires { Ready (lent_server heads.old bytes.old count.old marks.old) sizes.old slots.old }
     ensures { replayed result (lent_server heads.new bytes.new count.new marks.new)
         ≡ result_of (run (length recorded.now) max_entries
         (state_of (lent_server heads.old bytes.old count.old marks.old) sizes.old slots.old)

@@ -42,7 +42,7 @@ fn run_input(
     slots: &mut [u8],
     piece: &mut [u8],
 ) -> u8
-    requires ready { Ready (lent_server heads bytes count.old marks) sizes slots }
+    requires ready { Ready (lent_server heads.old bytes.old count.old marks.old) sizes.old slots.old }
     requires piece { length piece.old ≡ record_head_size + max_arrived }
     ensures runs { Runs (state_of (lent_server heads.old bytes.old count.old marks.old) sizes.old slots.old) result
         (state_of (lent_server heads.new bytes.new count.new marks.new) sizes.new slots.new) }

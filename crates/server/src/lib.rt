@@ -70,7 +70,7 @@ pub fn receive_when_sound(
     m: &[u8],
     out: &mut [u8],
 ) -> Answer
-    requires { SoundMemory max_entries (lent_server heads bytes count.old marks) }
+    requires { SoundMemory max_entries (lent_server heads.old bytes.old count.old marks.old) }
     ensures { answered result (lent_server heads.new bytes.new count.new marks.new) out.new
         ≡ step_with_place max_entries (lent_server heads.old bytes.old count.old marks.old)
         (lent_call (client_message c m.now) out.old) }

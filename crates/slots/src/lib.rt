@@ -41,7 +41,7 @@ fn bytes_came(
     c: usize,
     arrived: &[u8],
 )
-    requires ready { Ready (lent_server heads bytes count.old marks) sizes slots }
+    requires ready { Ready (lent_server heads.old bytes.old count.old marks.old) sizes.old slots.old }
     requires arrived { (c < recorded_connections) × (length arrived.now ≤ max_arrived) }
     ensures state { state_of (lent_server heads.new bytes.new count.new marks.new) sizes.new slots.new
         ≡ (step_record max_entries
@@ -98,7 +98,7 @@ pub fn step(
     c: usize,
     arrived: &[u8],
 )
-    requires ready { Ready (lent_server heads bytes count.old marks) sizes slots }
+    requires ready { Ready (lent_server heads.old bytes.old count.old marks.old) sizes.old slots.old }
     requires arrived { length arrived.now ≤ max_arrived }
     requires connection { kind ≢ opens_kind → kind ≢ leaves_kind → c < recorded_connections }
     ensures state { state_of (lent_server heads.new bytes.new count.new marks.new) sizes.new slots.new

@@ -1,5 +1,6 @@
 // Whether lent memory is sound.
 #![tactic(auto)]
+
 ghost use Rattle.std.specs.Prelude.{◌≡◌, ◌+◌, ◌*◌, ◌<◌, ◌≤◌, length, ◌==◌};
 ghost use Rattle.field.specs.Choice.{pick};
 ghost use Rattle.message.specs.Layout.{max_name_length};

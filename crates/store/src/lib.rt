@@ -57,7 +57,7 @@ pub fn add_entry(
     type_code: u8,
     value: &[u8],
 )
-    requires sound { sound_table max_entries (lent heads bytes count.old) ≡ true }
+    requires sound { sound_table max_entries (lent heads.old bytes.old count.old) ≡ true }
     requires room { count.old < max_entries }
     requires lengths { (length name.now ≤ max_name_length) × (length value.now ≤ max_value_size) }
     ensures { lent heads.new bytes.new count.new
@@ -90,7 +90,7 @@ pub fn store_new(
     recipients: u16,
     out: &mut [u8],
 ) -> Answer
-    requires sound { sound_table max_entries (lent heads bytes count.old) ≡ true }
+    requires sound { sound_table max_entries (lent heads.old bytes.old count.old) ≡ true }
     requires room { count.old < max_entries }
     requires lengths { (length name.now ≤ max_name_length) × (length value.now ≤ max_value_size) }
     ensures { (marks : List ℕ) → recipients ≡ recipient_set all_greeted marks →

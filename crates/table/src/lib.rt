@@ -1,5 +1,6 @@
 // The lent table: its layout, what an entry has, the search over names, and storing.
 #![tactic(auto)]
+
 ghost use Rattle.std.specs.Prelude.{◌≡◌, true, false, List, ℕ, ◌+◌, ◌*◌, ◌≤◌, ◌<◌, length};
 ghost use Rattle.field.specs.Octets.{bytes_equal};
 ghost use Rattle.table.specs.Names.{holder};

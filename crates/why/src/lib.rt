@@ -35,7 +35,7 @@ fn why_number(stored: u16, received: u16) -> Reason
 
 // A message that is ignored: keep alive, an assignment whose name is held, or an update whose number is not greater.
 fn why_ignored(heads: &[u16], bytes: &[u8], count: u16, m: &[u8]) -> Reason
-    requires sound { sound_table max_entries (lent heads bytes count) ≡ true }
+    requires sound { sound_table max_entries (lent heads.now bytes.now count) ≡ true }
     requires ignored { ReadAgain count m.now }
     ensures { result ≡ ignored_reason (entries_of (lent heads.now bytes.now count)) (get_or m.now 0 0) m.now }
 {

@@ -121,6 +121,7 @@ ready_room room x c e r = go (rw e at r)
 
 ready_is : (t room : ℕ) (x : Message) (c : Checked) → CheckIs t x c → Ready room c → (c ≡ Checked.allowed x) × WellFormedMessage t x
 ready_is t room x (Checked.allowed y) (CheckIs.allowed w) (ready h) = (refl, w)
+ready_is t room x (Checked.refused _) _ x5 = elim x5 [ ]
 
 module _ (f : Fields) (room : ℕ) (r : Ready room (check f)) where
   pub ready_assignment : f.kind ≡ assignment_kind
@@ -176,3 +177,4 @@ module _ (c : Checked) (out : List ℕ) where
     where
       go : (c : Checked) → Ready (length out) c → n ≡ length (bytes_of c) → after ≡ overwrite_at out 0 (bytes_of c) → written (done_answer 0 0 n) after ≡ write_with_place c out
       go (Checked.allowed m) (ready h) s w = rw (le-leb (length (layout m)) (length out) h, s, w)
+      go (Checked.refused _) x4 s w = elim x4 [ ]

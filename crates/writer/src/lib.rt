@@ -1,5 +1,6 @@
 // The message writer of Protocol Revision 2.0: fields are checked, and their message is written.
 #![tactic(auto)]
+
 ghost use Rattle.std.specs.Prelude.{◌≡◌, ℕ, length};
 ghost use Rattle.field.specs.Octets.{overwrite_at};
 ghost use Rattle.message.specs.Lent.{lent_entry};
@@ -84,7 +85,7 @@ fn write_checked(
     value: &[u8],
     out: &mut [u8],
 ) -> usize
-    requires { Ready (length out.old) (check (lent_fields kind revision name type_code id number value)) }
+    requires { Ready (length out.old) (check (lent_fields kind revision name.now type_code id number value.now)) }
     ensures sent { result ≡ length (bytes_of (check (lent_fields kind revision name.now type_code id number value.now))) }
     ensures output { out.new
         ≡ overwrite_at out.old 0

@@ -1,11 +1,7 @@
 -- `alike`: names of other lengths differ; what was compared of both, and what is left, come to the whole comparison.
-use mathlib.Core.Path.{◌≡◌, refl, sym, ◌∙◌}
-use mathlib.Core.Bool.{◌&&◌, false≢true}
-use Prim.Native.Nat.{◌≤◌, ◌-◌}
+use mathlib.Core.Path.{refl, sym, ◌∙◌}
+use mathlib.Core.Bool.{false≢true}
 use native.Mathlib.Omega.{arith}
-use borrow.Author.Rules.{rules}
-use lib.ListN.{length, drop}
-use Rattle.field.specs.Octets.{bytes_equal}
 use Rattle.field.proofs.EqualLaws.{bytes_equal_length, equal_step}
 use Rattle.table.proofs.alike.Goals as goal
 

@@ -1,11 +1,8 @@
-use mathlib.Core.Path.{◌≡◌, refl, sym, ◌∙◌}
-use mathlib.Core.Bool.{◌&&◌, false≢true}
+use mathlib.Core.Path.{◌≡◌}
+use mathlib.Core.Bool.{◌&&◌}
 use Prim.Native.Nat.{◌≤◌, ◌-◌}
-use native.Mathlib.Omega.{arith}
-use borrow.Author.Rules.{rules}
-use lib.ListN.{length, drop}
+use lib.ListN.{drop}
 use Rattle.field.specs.Octets.{bytes_equal}
-use Rattle.field.proofs.EqualLaws.{bytes_equal_length, equal_step}
 use Rattle.table.proofs.alike.Given as goal
 
 abbrev pub invariant-loop-k : goal.invariant-loop-k

@@ -2,12 +2,10 @@
 use mathlib.Core.Path.{◌≡◌, refl, sym, ap, ◌∙◌}
 use mathlib.Core.Bool.{Bool, true, false, ◌&&◌, and-true}
 use mathlib.Core.List.{List}
-use mathlib.Core.Logic.{⊎_elim}
-use Prim.Native.Nat.{ℕ, ◌-◌, ◌≤◌, ◌<◌}
+use Prim.Native.Nat.{ℕ}
 use native.Mathlib.Omega.{arith}
 use lib.ListN.{length, drop}
 use borrow.Author.Count.{below_more}
-use borrow.Author.Rules.{rules}
 use Rattle.field.specs.Octets.{bytes_equal}
 use Rattle.table.specs.Table.{entry_at, entries_of}
 use Rattle.field.proofs.EqualLaws.{equal_step, equal_end}
@@ -42,8 +40,8 @@ loop-k-preserved c =
 pub entries-preserved : goal.entries-preserved
 entries-preserved c =
     let other : bytes_equal c.name_of-held.result.now c.args.name.now ≡ false = elim c.if-alike.branch [
-      then-alike+else-loop-k-test+else-equal w ↦ compared c.name_of-held.result.now c.args.name.now w.loop-k.equal w.loop-k.k (c.alike.ensures.lengths w.if-alike.true) (omega arith) w.loop-k.invariant.1 ∙ w.if-equal.false |
-      else-alike w ↦ c.alike.ensures.others w.if-alike.false
+      | then-alike+else-loop-k-test+else-equal w ↦ compared c.name_of-held.result.now c.args.name.now w.loop-k.equal w.loop-k.k (c.alike.ensures.lengths w.if-alike.true) (omega arith) w.loop-k.invariant.1 ∙ w.if-equal.false
+      | else-alike w ↦ c.alike.ensures.others w.if-alike.false
     ] in
     let named : bytes_equal (entry_at c.args.heads.now c.args.bytes.now c.entries.i).name c.args.name.now ≡ false = ap (λ (n : List ℕ). bytes_equal n c.args.name.now) (sym c.name_of-held.ensures) ∙ other in
     (omega arith, below_more _ _ c.entries.invariant.1 named)

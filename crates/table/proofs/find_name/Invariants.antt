@@ -1,16 +1,9 @@
-use mathlib.Core.Path.{◌≡◌, refl, sym, ap, ◌∙◌}
-use mathlib.Core.Bool.{Bool, true, false, ◌&&◌, and-true}
-use mathlib.Core.List.{List}
-use mathlib.Core.Logic.{⊎_elim}
+use mathlib.Core.Path.{◌≡◌}
+use mathlib.Core.Bool.{false, ◌&&◌}
 use Prim.Native.Nat.{ℕ, ◌-◌, ◌≤◌, ◌<◌}
-use native.Mathlib.Omega.{arith}
 use lib.ListN.{length, drop}
-use borrow.Author.Count.{below_more}
-use borrow.Author.Rules.{rules}
 use Rattle.field.specs.Octets.{bytes_equal}
-use Rattle.table.specs.Table.{entry_at, entries_of}
-use Rattle.field.proofs.EqualLaws.{equal_step, equal_end}
-use Rattle.table.proofs.SearchLaws.{has_name, holder_below, holder_at}
+use Rattle.table.specs.Table.{entry_at}
 use Rattle.table.proofs.find_name.Given as goal
 
 abbrev pub invariant-loop-k : goal.invariant-loop-k

@@ -1,19 +1,16 @@
 -- `read_held_update` meets its contract: an ID below the count is held, and the type in its head is the stored entry's.
 use mathlib.Core.Path.{◌≡◌, sym, ◌∙◌}
 use mathlib.Core.Bool.{true, false}
-use mathlib.Core.List.{List}
-use Prim.Native.Nat.{ℕ, ◌≤◌, ◌<◌}
+use Prim.Native.Nat.{◌≤◌}
 use native.Mathlib.Omega.{arith}
 use lib.ListN.{length, drop, get_or}
 use lib.Dec.{ltb}
 use borrow.Author.Tests.{lt-ltb, le-ltb}
 use Rattle.field.specs.Octets.{decode16}
 use Rattle.field.proofs.FieldLaws.{number_there, number_missing}
-use Rattle.message.specs.Layout.{Entry}
 use Rattle.message.proofs.ReaderLaws.{update_short, update_unknown, update_held}
-use Rattle.table.specs.Table.{TableMemory, table_memory, default_entry, entry_at, entries_of}
+use Rattle.table.specs.Table.{table_memory, default_entry, entry_at, entries_of}
 use Rattle.table.proofs.TabulateLaws.{length_entries, type_get}
-use borrow.Author.Rules.{rules}
 use Rattle.table.proofs.read_held_update.Goals as goal
 
 pub returns-in_default : goal.returns-in_default

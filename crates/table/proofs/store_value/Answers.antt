@@ -3,7 +3,6 @@ use mathlib.Core.Path.{refl}
 use native.Mathlib.Omega.{arith}
 use lib.ListN.{length-set}
 use Rattle.table.specs.Table.{heads_with_value, bytes_with_value}
-use borrow.Author.Rules.{rules}
 use Rattle.table.proofs.store_value.Goals as goal
 
 pub bounds-heads-head-2 : goal.bounds-heads-head-2

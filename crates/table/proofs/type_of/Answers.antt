@@ -1,5 +1,4 @@
 use Rattle.table.specs.Table.{entry_at}
-use borrow.Author.Rules.{rules}
 use Rattle.table.proofs.type_of.Goals as goal
 
 pub returns : goal.returns
