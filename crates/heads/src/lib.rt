@@ -1,5 +1,6 @@
 // A table's heads as C lends them, and the same heads as flat numbers.
 #![tactic(auto)]
+
 ghost use Rattle.std.specs.Prelude.{◌≡◌, ◌+◌, ◌*◌, ◌<◌, ◌≤◌, length};
 ghost use Rattle.table.specs.Table.{max_entries, head_size, number_field};
 ghost use Rattle.heads.specs.Heads.{head_numbers, changed, with_head, head_at, loaded, stored};
@@ -8,7 +9,7 @@ use field::DONE;
 
 // One entry head.
 #[repr(C)]
-#[derive(Drop)]
+#[derive(Clone, Copy)]
 pub struct Head {
     pub name_length: u16,
     pub value_length: u16,
