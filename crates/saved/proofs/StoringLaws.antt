@@ -69,7 +69,6 @@ covered_of xs (e ∷ es) p (CoveredFrom.value_here w) =
 covered_of xs (e ∷ es) p (CoveredFrom.later c) =
     let long : length xs + 1 ≡ length (xs ++ (e ∷ [])) = omega (arith, length-append xs (e ∷ [])) in
     rw (append_assoc xs (e ∷ []) es) at (covered_of (xs ++ (e ∷ [])) es p (rw long at c))
-covered_of xs [] p x' = elim x' [ ]
 
 -- from an empty table on
 pub kept_from_empty : (es : List Entry) (m : TableMemory) → m.count ≡ 0 → SameBut (λ p. p < head_size * length es) (Covered es) m (store_all m es)
