@@ -32,7 +32,7 @@ use Rattle.soundness.specs.Sound.{sound_table, sound_marks}
 use Rattle.soundness.proofs.ReadableLaws.{stored_entry}
 use Rattle.soundness.proofs.StoredLaws.{stored_new, stored_value}
 use Rattle.recipients.specs.Recipients.{all_greeted}
-use Rattle.protocol.specs.Judge.{local_write, Verdict, refuse, ignore, accept_hello, unsupported_revision, store_new, store_update, new_id, new_entry, judge_write, judge}
+use Rattle.protocol.specs.Judge.{local_write, Verdict, refuse, ignore, read_done, open_mark, close_mark, accept_hello, unsupported_revision, store_new, store_update, new_id, new_entry, judge_write, judge}
 use Rattle.protocol.specs.Step.{ServerMemory, CallResult, refusal, execute, call_step}
 use Rattle.protocol.specs.Kept.{SoundMemory}
 use Rattle.protocol.specs.Change.{Applied, EntryAfter, applied, CountAfter, one_more, ClientChange, ClientChanges, NotGreaterIgnored, HeldNameIgnored, KeepAliveIgnored, EqualValueIgnored, LeavesValue, WriteHeld, SameBytesIgnored}
@@ -132,6 +132,9 @@ module _ (limit : ℕ) (mem : ServerMemory) (s : SoundMemory limit mem) (m : Lis
       by_test (ClientChange before m) _ _ _ (λ _. created_changes new e (rw p at first) q o w h l _ refl refl) (λ _. unchanged refl)
   executed_changes out x first (store_update id number value n to) (Comes.updated p h w g t) =
       by_test (ClientChange before m) _ _ _ (λ _. updated_changes id number value (rw p at first) h w g _ refl refl) (λ _. unchanged refl)
+  executed_changes out x first (close_mark c) f = elim f [ ]
+  executed_changes out x first (open_mark c) f = elim f [ ]
+  executed_changes out x first read_done f = elim f [ ]
 
 pub client_changes : ClientChanges
 client_changes limit mem c m out b = go _ (client_call_lem limit mem c m out b)

@@ -31,7 +31,7 @@ use Rattle.soundness.proofs.StoredLaws.{entries_well_formed, entries_fit}
 use Rattle.recipients.specs.Recipients.{Recipients}
 use Rattle.hello.specs.Hello.{hello_answer}
 use Rattle.hello.proofs.HelloLaws.{length_hello}
-use Rattle.protocol.specs.Judge.{Call, client_message, Verdict, refuse, ignore, accept_hello, unsupported_revision, store_new, store_update, judge, judge_kind, judge_message, judge_hello, judge_assignment, judge_update}
+use Rattle.protocol.specs.Judge.{Call, client_message, Verdict, refuse, ignore, accept_hello, unsupported_revision, store_new, store_update, judge, judge_kind, judge_message, judge_hello, judge_assignment, judge_update, close_mark, open_mark, read_done}
 use Rattle.protocol.specs.Step.{ServerMemory, call_step, execute, refusal, answer}
 use Rattle.protocol.specs.Answered.{MessageProgress, CallProgress}
 use Rattle.protocol.proofs.AnswerLaws.{not_refused}
@@ -134,6 +134,9 @@ module _ (limit : ℕ) (mem : ServerMemory) (m out : List ℕ) where
     output_length = refl;
     output_rest = refl;
   }
+  executed s call (close_mark c) x4 f = elim x4 [ ]
+  executed s call (open_mark c) x3 f = elim x3 [ ]
+  executed s call read_done x'' f = elim x'' [ ]
   executed s call (accept_hello c) (accepted h) f =
       done_with_lem 3 (hello_answer 0 (entries_of mem.table)) _ _ (omega arith) h (hello_some 0 (entries_of mem.table))
       (omega (arith, length_hello 0 (entries_of mem.table) default_entry (entries_well_formed limit mem.table s), entries_fit limit mem.table s))

@@ -25,7 +25,7 @@ use Rattle.protocol.specs.Judge.{Call, open_connection, leave, client_message, l
 use Rattle.protocol.specs.Step.{ServerMemory, CallResult, refusal, execute, sound_for, call_step}
 use Rattle.protocol.specs.Kept.{SoundMemory}
 use Rattle.protocol.specs.Taken.{message_call}
-use Rattle.protocol.specs.Refused.{Concerns, Refused, UnsoundTableRefused, UnsoundMarksRefused, TooHighRefused, ClosedRefused, OpenAgainRefused, EmptyRefused, KindRefused, GreetedHelloRefused, UngreetedRefused, UnknownIdRefused, FullRefused, RoomDecides, CallNeedsRoom, without_room, RoomLast, HelloNoRoom, AssignmentNoRoom, UpdateNoRoom, OtherRevisionNoRoom, CreateNoRoom, WriteNoRoom, HeldNameRefused, NoEntryRefused}
+use Rattle.protocol.specs.Refused.{Concerns, UnsoundTableRefused, UnsoundMarksRefused, TooHighRefused, ClosedRefused, OpenAgainRefused, EmptyRefused, KindRefused, GreetedHelloRefused, UngreetedRefused, UnknownIdRefused, FullRefused, RoomDecides, CallNeedsRoom, without_room, RoomLast, HelloNoRoom, AssignmentNoRoom, UpdateNoRoom, OtherRevisionNoRoom, CreateNoRoom, WriteNoRoom, HeldNameRefused, NoEntryRefused}
 use Rattle.protocol.proofs.SoundnessLaws.{step_is}
 use Rattle.protocol.proofs.MessageLaws.{comes_to, connected, client_step}
 use Rattle.protocol.proofs.ChangeLaws.{held}
@@ -70,6 +70,9 @@ too_high_refused limit mem s c b k concerns = step_is limit mem s k ∙ go k.cal
     go (open_connection d) Concerns.opening = rw (le-ltb c connections b)
     go (leave d) Concerns.leaving = rw (le-ltb c connections b)
     go (client_message d m) Concerns.sending = rw (le-ltb c connections b)
+    go (read_entry id) x3 = elim x3 [ ]
+    go (local_write id value) x'' = elim x'' [ ]
+    go (local_create name type value) x' = elim x' [ ]
 
 pub closed_refused : ClosedRefused
 unfolding judge execute pick

@@ -186,6 +186,9 @@ module _ (limit : ℕ) (mem : ServerMemory) (c : ℕ) (m : List ℕ) (x : Messag
   comes_acts (unsupported_revision d) (Comes.turned_away revision e ne) = turned_away (three revision e) (turning_away (stands_as e) ne)
   comes_acts (store_new new n) (Comes.created e p q o w h l t) = created {e = new} t (rw q (assigning (stands_as p)))
   comes_acts (store_update id number value n to) (Comes.updated p h w g t) = updated t (updating (stands_as p))
+  comes_acts (close_mark _) x4 = elim x4 [ ]
+  comes_acts (open_mark _) x3 = elim x3 [ ]
+  comes_acts read_done x'' = elim x'' [ ]
 
 -- a refusal where the state does not allow the message
 StateOf : (mark : ℕ) → Message → (mem : ServerMemory) (out : List ℕ) → Verdict → Type 0
