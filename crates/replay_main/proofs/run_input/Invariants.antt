@@ -9,8 +9,8 @@ use Rattle.replay_main.proofs.run_input.Given as goal
 abbrev pub invariant-loop-left : goal.invariant-loop-left
 invariant-loop-left g l = record {
   runs : Runs (state_of (lent_server l.initial.heads l.initial.bytes l.initial.count l.initial.marks) l.initial.sizes l.initial.slots)
-    done
-    (state_of (lent_server l.heads l.bytes l.count l.marks) l.sizes l.slots);
+      done
+      (state_of (lent_server l.heads l.bytes l.count l.marks) l.sizes l.slots);
   ready : Ready (lent_server l.heads l.bytes l.count l.marks) l.sizes l.slots;
   piece : length l.piece ≡ length l.initial.piece;
 }
