@@ -1,5 +1,6 @@
 // The client half: a copy of the server's table, kept from the server's messages. A call judges soundness, judges, and performs.
 #![tactic(auto)]
+
 ghost use Rattle.std.specs.Prelude.{◌≡◌, true, ℕ, ◌+◌, ◌≤◌, length};
 ghost use Rattle.field.specs.Answer.{unsound};
 ghost use Rattle.value.specs.Value.{max_value_size};

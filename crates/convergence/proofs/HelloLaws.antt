@@ -17,7 +17,7 @@ use Rattle.table.specs.Table.{entries_of}
 use Rattle.soundness.proofs.SoundLaws.{marks_facts}
 use Rattle.recipients.specs.Recipients.{sender, recipient_set}
 use Rattle.hello.specs.Hello.{hello_answer}
-use Rattle.protocol.specs.Judge.{client_message, Verdict, refuse, refuse_call, accept_hello, protocol_revision, judge_hello, judge_kind, judge_message, judge}
+use Rattle.protocol.specs.Judge.{client_message, Verdict, refuse, refuse_call, accept_hello, protocol_revision, judge_hello, judge_kind, judge_message, judge, store_update, store_new, unsupported_revision, close_mark, open_mark, read_done, ignore}
 use Rattle.protocol.specs.Step.{ServerMemory, CallResult, with_mark, execute, call_step}
 use Rattle.protocol.specs.Run.{addressed_by_call, hello_call}
 use Rattle.soundness.proofs.StoredLaws.{entries_well_formed, entries_differ, entries_fit}
@@ -55,6 +55,13 @@ pub record Accepted (limit : ℕ) (mem : ServerMemory) (c : ℕ) (r : CallResult
 accepted_hello : (limit : ℕ) (mem : ServerMemory) → SoundMemory limit mem → (c : ℕ) → c < 16 → (out : List ℕ) (v : Verdict) → HelloIs mem.marks c v
     → Accepted limit mem c (execute mem out v)
 unfolding execute
+accepted_hello limit mem s c b out (ignore taken) x' = elim x' [ ]
+accepted_hello limit mem s c b out read_done x'' = elim x'' [ ]
+accepted_hello limit mem s c b out (open_mark _) x3 = elim x3 [ ]
+accepted_hello limit mem s c b out (close_mark _) x4 = elim x4 [ ]
+accepted_hello limit mem s c b out (unsupported_revision _) x5 = elim x5 [ ]
+accepted_hello limit mem s c b out (store_new _ taken) x7 = elim x7 [ ]
+accepted_hello limit mem s c b out (store_update id number value taken to) x7 = elim x7 [ ]
 accepted_hello limit mem s c b out (refuse fault) (refused h) = record { at_done = λ e. absurd (omega arith) }
 accepted_hello limit mem s c b out (accept_hello d) (welcomed h) =
     by_test (Accepted limit mem c) (leb (length bytes) (length out)) _ _

@@ -6,7 +6,7 @@ use native.Mathlib.Omega.{arith}
 use lib.ListN.{get_or}
 use Rattle.field.proofs.ChoiceLaws.{by_test}
 use Rattle.table.specs.Table.{entries_of}
-use Rattle.protocol.specs.Judge.{Verdict, refuse, accept_hello}
+use Rattle.protocol.specs.Judge.{Verdict, refuse, accept_hello, store_update, store_new, unsupported_revision, close_mark, open_mark, read_done, ignore}
 use Rattle.protocol.specs.Step.{ServerMemory, LentCall, CallResult, execute, call_step}
 use Rattle.protocol.specs.Run.{memory_after_run, hello_call, StaysWithoutOwnUpdate}
 use Rattle.protocol.specs.Kept.{SoundMemory}
@@ -21,6 +21,13 @@ record NotDone (r : CallResult) : Type 0 where
 
 hello_refused : (mem : ServerMemory) (c : ℕ) (out : List ℕ) (v : Verdict) → HelloIs mem.marks c v → get_or mem.marks c 0 ≡ 2 → NotDone (execute mem out v)
 unfolding execute
+hello_refused mem c out (ignore taken) x'' g = elim x'' [ ]
+hello_refused mem c out read_done x3 g = elim x3 [ ]
+hello_refused mem c out (open_mark _) x4 g = elim x4 [ ]
+hello_refused mem c out (close_mark _) x5 g = elim x5 [ ]
+hello_refused mem c out (unsupported_revision _) x6 g = elim x6 [ ]
+hello_refused mem c out (store_new _ taken) x8 g = elim x8 [ ]
+hello_refused mem c out (store_update id number value taken to) x8 g = elim x8 [ ]
 hello_refused mem c out (refuse fault) (HelloIs.refused h) g = record { at_done = λ e. omega arith }
 hello_refused mem c out (accept_hello d) (HelloIs.welcomed h) g = absurd (omega arith)
 

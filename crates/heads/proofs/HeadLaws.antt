@@ -6,7 +6,7 @@ use native.Mathlib.Numerals.{add-one}
 use native.Mathlib.Omega.{arith}
 use mathlib.Core.Logic.{◌≢◌, ◌⊎◌, inl, inr}
 use mathlib.Core.List.{List, [], ◌∷◌}
-use lib.ListN.{length, get_or, set, take, drop, replicate, length-set, length-take, length-drop, length-replicate}
+use lib.ListN.{length, get_or, set, take, drop, length-set, length-take, length-drop}
 use lib.Seq.{get_or-set_same, get_or-set_other, get_or-take, get_or-drop, ext_get_or}
 use borrow.Author.Tests.{eqb-false}
 use Rattle.field.proofs.ChoiceLaws.{by_test}
@@ -32,10 +32,6 @@ loaded_next i hs flat = rw (add-one i)
 pub stored_next : (i : ℕ) (flat : List ℕ) (hs : List Head) → set (stored i flat hs) i (head_at flat i) ≡ stored (i + 1) flat hs
 unfolding stored
 stored_next i flat hs = rw (add-one i)
-
-pub loaded_none : (hs : List Head) (flat : List ℕ) → flat ≡ loaded 0 hs flat
-unfolding loaded
-loaded_none hs flat = refl
 
 pub stored_none : (flat : List ℕ) (hs : List Head) → hs ≡ stored 0 flat hs
 unfolding stored
@@ -127,24 +123,10 @@ pub changed_small : (number : ℕ) → changed number ≤ max_entries
 unfolding changed
 changed_small number = by_test (λ (k : ℕ). k ≤ max_entries) _ _ _ (λ _. omega arith) (λ _. omega arith)
 
--- ---- the local numbers
-unfoldable pub zeros : List ℕ
-zeros = replicate head_numbers 0
+-- what `load` and `store` keep in their loops
+pub ruleset loading = (loaded_next, length_loaded)
 
-pub zeros_is : replicate {A = ℕ} head_numbers 0 ≡ zeros
-unfolding zeros
-zeros_is = refl
-
-pub length_zeros : length zeros ≡ head_numbers
-unfolding zeros
-length_zeros = length-replicate {A = ℕ} head_numbers 0
-
--- the numbers once the heads are loaded
-abbrev pub flat_of : List Head → List ℕ
-flat_of hs = loaded max_entries hs zeros
-
-pub length_flat : (hs : List Head) → length (flat_of hs) ≡ head_numbers
-length_flat hs = length_loaded max_entries hs zeros ∙ length_zeros
+pub ruleset storing = (stored_next, length_stored, changed_small)
 
 -- ---- the numbers are the heads'
 
@@ -200,20 +182,35 @@ module _ (hs : List Head) (enough : max_entries ≤ length hs) where
   unfolding flat_heads
   length_enough xs e = simp (length_numbers, length-take) (omega arith)
 
-  -- loading
-  pub load_flat : flat_of hs ≡ flat_heads hs
-  load_flat = same_heads max_entries (flat_of hs) (flat_heads hs) (length_flat hs) (length_enough hs refl) (λ i l. loaded_at max_entries hs zeros (omega (arith, length_zeros)) i l ∙ sym (flat_heads_at hs i l))
-
-  module _ (f : List ℕ) (len : length f ≡ head_numbers) where
-    store_all_lem : flat_heads (stored max_entries f hs) ≡ f
-    store_all_lem = same_heads max_entries (flat_heads (stored max_entries f hs)) f (length_enough (stored max_entries f hs) (length_stored max_entries f hs)) len (λ i l. flat_heads_at (stored max_entries f hs) i l ∙ stored_at max_entries f hs enough i l)
-
-    -- storing what a call left, where it left the numbers as they were unless it is done
-    pub store_flat : (number : ℕ) → (number ≢ 0 → f ≡ flat_of hs) → flat_heads (stored (changed number) f hs) ≡ f
-    unfolding changed
-    store_flat number kept = by_test (λ (k : ℕ). flat_heads (stored k f hs) ≡ f) _ _ _ (λ _. store_all_lem) (λ ne. rw (← (stored_none f hs)) (sym (kept (eqb-false number 0 ne) ∙ load_flat)))
-
   -- a head past the first max_entries is as it was
   pub store_rest : (f : List ℕ) (number : ℕ) → drop max_entries (stored (changed number) f hs) ≡ drop max_entries hs
   store_rest f number = ext_get_or no_head (drop max_entries (stored (changed number) f hs)) (drop max_entries hs) (simp (length-drop, length_stored))
       (λ i l. get_or-drop max_entries (stored (changed number) f hs) i no_head ∙ stored_past (changed number) f hs (max_entries + i) (omega (arith, changed_small number)) ∙ sym (get_or-drop max_entries hs i no_head))
+
+-- the heads as they are loaded into any numbers, as many as a table has
+pub loaded_all : (hs : List Head) (xs : List ℕ) → max_entries ≤ length hs → length xs ≡ head_numbers → loaded max_entries hs xs ≡ flat_heads hs
+loaded_all hs xs enough len =
+    same_heads
+    max_entries
+    (loaded max_entries hs xs)
+    (flat_heads hs)
+    (length_loaded max_entries hs xs ∙ len)
+    (length_enough hs enough hs refl)
+    (λ i l. loaded_at max_entries hs xs (omega (arith, len)) i l ∙ sym (flat_heads_at hs i l))
+
+-- storing what a call left of these numbers, where it left them as they were unless it is done
+module _ (hs : List Head) (f : List ℕ) (number : ℕ) (enough : max_entries ≤ length hs) (len : length f ≡ head_numbers) where
+  store_all : flat_heads (stored max_entries f hs) ≡ f
+  store_all =
+      same_heads
+      max_entries
+      (flat_heads (stored max_entries f hs))
+      f
+      (length_enough hs enough (stored max_entries f hs) (length_stored max_entries f hs))
+      len
+      (λ i l. flat_heads_at (stored max_entries f hs) i l ∙ stored_at max_entries f hs enough i l)
+
+  pub stored_all : (number ≢ 0 → f ≡ flat_heads hs) → flat_heads (stored (changed number) f hs) ≡ f
+  unfolding changed
+  stored_all kept =
+      by_test (λ (k : ℕ). flat_heads (stored k f hs) ≡ f) _ _ _ (λ _. store_all) (λ ne. rw (← (stored_none f hs)) (sym (kept (eqb-false number 0 ne))))

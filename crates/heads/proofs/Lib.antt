@@ -1,13 +1,1 @@
 pub mod HeadLaws
-pub mod Walk
-pub mod Leave
-pub mod Frame
-pub mod Again
-pub mod Lend
-pub mod Boundary
-pub mod Calls
-pub mod Refuse
-pub mod Steps
-pub mod Parameters
-pub mod Exported
-pub mod Prelude

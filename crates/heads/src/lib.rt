@@ -1,5 +1,6 @@
 // A table's heads as C lends them, and the same heads as flat numbers.
 #![tactic(auto)]
+
 ghost use Rattle.std.specs.Prelude.{◌≡◌, ◌+◌, ◌*◌, ◌<◌, ◌≤◌, length};
 ghost use Rattle.table.specs.Table.{max_entries, head_size, number_field};
 ghost use Rattle.heads.specs.Heads.{head_numbers, changed, with_head, head_at, loaded, stored};
@@ -8,7 +9,7 @@ use field::DONE;
 
 // One entry head.
 #[repr(C)]
-#[derive(Drop)]
+#[derive(Clone, Copy)]
 pub struct Head {
     pub name_length: u16,
     pub value_length: u16,
@@ -17,6 +18,7 @@ pub struct Head {
 }
 
 // How many heads are made of the numbers: none unless the number is 0.
+#[tactic(auto, unfolding(crate::specs::Heads::changed, field::specs::Choice::pick))]
 fn changed(number: u8) -> usize
     ensures { result ≡ changed number }
 {
@@ -53,6 +55,7 @@ fn head_at(flat: &[u16], i: usize) -> Head
 }
 
 // The heads of a table become numbers.
+#[tactic(auto, using(crate::proofs::HeadLaws::loading), unfolding(crate::specs::Heads::loaded))]
 pub fn load(heads: &[Head], flat: &mut [u16])
     requires { (max_entries ≤ length heads.now) × (head_numbers ≤ length flat.old) }
     ensures { flat.new ≡ loaded max_entries heads.now flat.old }
@@ -66,6 +69,7 @@ pub fn load(heads: &[Head], flat: &mut [u16])
 }
 
 // The numbers become the heads of a table again, where the number is 0.
+#[tactic(auto, using(crate::proofs::HeadLaws::storing), unfolding(crate::specs::Heads::stored))]
 pub fn store(number: u8, flat: &[u16], heads: &mut [Head])
     requires { (max_entries ≤ length heads.old) × (head_numbers ≤ length flat.now) }
     ensures { heads.new ≡ stored (changed number) flat.now heads.old }

@@ -1,5 +1,6 @@
 // What a call comes to: read only, the output is not looked at.
 #![tactic(auto)]
+
 ghost use Rattle.std.specs.Prelude.{◌≡◌, true, ℕ, ◌≤◌, ◌<◌, List, length};
 ghost use Rattle.message.specs.Layout.{Entry};
 ghost use Rattle.message.specs.Reader.{id_allowed, parse_assignment};

@@ -25,7 +25,7 @@ use Rattle.writer.specs.Writer.{check_name}
 use Rattle.table.specs.Names.{name_held}
 use Rattle.table.specs.Table.{entries_of, default_entry}
 use Rattle.recipients.specs.Recipients.{Recipients}
-use Rattle.protocol.specs.Judge.{Call, client_message, local_create, local_write, Verdict, refuse, ignore, accept_hello, unsupported_revision, store_new, store_update, refuse_call, new_entry, judge_hello, judge_assignment, judge_update, judge_kind, judge_message, judge_create, judge_write, judge}
+use Rattle.protocol.specs.Judge.{Call, client_message, local_create, local_write, Verdict, refuse, ignore, accept_hello, unsupported_revision, store_new, store_update, refuse_call, new_entry, judge_hello, judge_assignment, judge_update, judge_kind, judge_message, judge_create, judge_write, judge, close_mark, open_mark, read_done}
 use Rattle.protocol.specs.Step.{ServerMemory, CallResult, refusal, execute, call_step}
 use Rattle.line_record.specs.Held.{longest_incomplete}
 use Rattle.line_record.proofs.ShortLaws.{not_incomplete, AssignmentShort, assignment_short, UpdateShort, update_short}
@@ -124,6 +124,9 @@ module _ (H : Type 0) (mem : ServerMemory) (out : List ℕ) where
 
   execute_tells : (v : Verdict) → Brief H v → Tells H (execute mem out v)
   unfolding execute
+  execute_tells read_done x' = elim x' [ ]
+  execute_tells (open_mark c) x'' = elim x'' [ ]
+  execute_tells (close_mark c) x3 = elim x3 [ ]
   execute_tells (refuse fault) (refused f) = record { tells = f }
   execute_tells (ignore taken) ignored = record { tells = not_incomplete ignoredNumber (omega arith) }
   execute_tells (accept_hello c) accepted = answered _ _ _ done_tells no_room

@@ -23,7 +23,7 @@ use Rattle.message.specs.declared.UpdateRead.TheVariants as U
 use Rattle.writer.specs.Writer.{check_name}
 use Rattle.table.specs.Table.{TableMemory, entries_of, default_entry, parse_held_update}
 use Rattle.recipients.specs.Recipients.{Recipients}
-use Rattle.protocol.specs.Judge.{Call, leave, client_message, local_create, local_write, Verdict, refuse, ignore, close_mark, accept_hello, unsupported_revision, store_new, store_update, new_id, judge_hello, judge_assignment, judge_update, judge_kind, judge_message, judge_create, judge_write, judge}
+use Rattle.protocol.specs.Judge.{Call, leave, client_message, local_create, local_write, Verdict, refuse, ignore, close_mark, accept_hello, unsupported_revision, store_new, store_update, new_id, judge_hello, judge_assignment, judge_update, judge_kind, judge_message, judge_create, judge_write, judge, open_mark, read_done, read_entry, open_connection}
 use Rattle.protocol.specs.Step.{ServerMemory, LentCall, CallResult, with_mark, with_table, execute, call_step}
 use Rattle.protocol.specs.Run.{memory_after_run}
 use Rattle.protocol.specs.Effect.{Effect, with_output, without_output}
@@ -91,6 +91,8 @@ module _ (c limit : ℕ) (es : List Entry) where
 
   judge_own : (marks : List ℕ) (call : Call) → CallOf c call → Own c (judge limit es marks call)
   unfolding judge
+  judge_own marks (open_connection _) x' = elim x' [ ]
+  judge_own marks (read_entry id) x'' = elim x'' [ ]
   judge_own marks (leave d) leaves = by_test (Own c) _ _ _ (λ _. by_test (Own c) _ _ _ (λ _. refused) (λ _. left)) (λ _. refused)
   judge_own marks (client_message d m) sends = by_test (Own c) _ _ _ (λ _. by_test (Own c) _ _ _ (λ _. refused) (λ _. message_own (get_or marks c 0) m)) (λ _. refused)
   judge_own marks (local_create name type value) creates = create_own name type value
@@ -123,6 +125,8 @@ module _ (c : ℕ) (mem : ServerMemory) where
 
   execute_own : (out : List ℕ) (v : Verdict) → Own c v → StayBy c mem (execute mem out v)
   unfolding execute
+  execute_own out read_done x' = elim x' [ ]
+  execute_own out (open_mark _) x'' = elim x'' [ ]
   execute_own out (refuse fault) refused = record { others = others_stay c mem }
   execute_own out (ignore taken) ignored = record { others = others_stay c mem }
   execute_own out (close_mark d) left = answered _ _ _ (marked c _ mem) (others_stay c mem)

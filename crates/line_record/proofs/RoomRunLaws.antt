@@ -133,6 +133,8 @@ module _ (limit : ℕ) (some : 1 ≤ limit) (mem : ServerMemory) (s : SoundMemor
 
 pub same_memory : SameMemory
 unfolding memory_after_run
+same_memory limit some mem s [] (l ∷ ls) x7 f g = elim x7 [ ]
+same_memory limit some mem s (k ∷ ks) [] x6 f g = elim x6 [ ]
 same_memory limit some mem s [] [] SameCalls.no_more f g = refl
 same_memory limit some mem s (k ∷ ks) (l ∷ ls) (SameCalls.and_then e more) (EachHasRoom.and_then h f) (EachHasRoom.and_then i g) =
     same_memory limit some (call_step limit mem k).memory (sound_kept limit mem s k) ks ls more f g

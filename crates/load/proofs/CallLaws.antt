@@ -1,6 +1,6 @@
 -- Laws of the call that loads: what it answers and leaves, by what was found.
 use mathlib.Core.Path.{◌≡◌, sym, ap, ◌∙◌}
-use mathlib.Core.Bool.{true, false, ◌&&◌}
+use mathlib.Core.Bool.{true, false}
 use mathlib.Core.List.{List}
 use Prim.Native.Nat.{ℕ}
 use native.Mathlib.Omega.{arith}
@@ -16,7 +16,7 @@ use Rattle.answer.specs.Answers.{bare_answer, refused_answer, done_answer}
 use Rattle.table.specs.Table.{TableMemory, emptied, tabulate}
 use Rattle.soundness.specs.Sound.{sound_table, sound_marks}
 use Rattle.saved.specs.Reading.{Reading, refused, read, read_saved}
-use Rattle.saved.specs.Calls.{LoadResult, load_result, all_closed, store_all, load_read, load}
+use Rattle.saved.specs.Calls.{load_result, all_closed, store_all, load_read, load}
 use Rattle.load.specs.Records.{saved_entry, outcome}
 use Rattle.load.proofs.RecordsLaws.{form_read}
 

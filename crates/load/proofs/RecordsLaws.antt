@@ -2,7 +2,7 @@
 use mathlib.Core.Path.{◌≡◌, refl, sym, ap, ◌∙◌}
 use mathlib.Core.Bool.{true, false}
 use mathlib.Core.List.{List, [], ◌∷◌, ◌++◌}
-use Prim.Native.Nat.{ℕ, zero, suc, ◌+◌, ◌-◌, ◌*◌, ◌≤◌, ◌<◌}
+use Prim.Native.Nat.{ℕ, zero, suc, ◌+◌, ◌-◌, ◌≤◌, ◌<◌}
 use native.Mathlib.Nat.{add-zero}
 use native.Mathlib.Numerals.{add-one}
 use native.Mathlib.Omega.{arith}
@@ -23,7 +23,7 @@ use Rattle.message.specs.Layout.{Entry, max_name_length}
 use Rattle.table.specs.Names.{name_held}
 use Rattle.table.specs.Table.{part, tabulate}
 use Rattle.table.proofs.TabulateLaws.{length_tabulate}
-use Rattle.saved.specs.Form.{count_kind, name_length_place, name_place, type_place, number_place, value_length_place, value_place, count_record_size, entry_record_size, saved_size}
+use Rattle.saved.specs.Form.{count_kind, name_length_place, name_place, number_place, value_place, count_record_size, entry_record_size, saved_size}
 use Rattle.saved.specs.Reading.{Reading, refused, read, name_length_in, type_in, value_length_in, record_entry, parse_record, count_in, parse_count, read_records, read_saved}
 use Rattle.saved.proofs.RecordLaws.{opening_facts, RecordIs, record_is}
 use Rattle.load.specs.Records.{saved_entry, Storable, Records, outcome}

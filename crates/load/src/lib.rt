@@ -1,5 +1,6 @@
 // Loading a table: a saved form is judged whole, and then its entries are stored.
 #![tactic(auto)]
+
 ghost use Rattle.std.specs.Prelude.{◌≡◌, [], ◌+◌, ◌≤◌, ◌<◌, length, drop};
 ghost use Rattle.table.specs.Names.{name_held};
 ghost use Rattle.table.specs.Table.{Holds, table_memory, lent, tabulate, emptied, heads_with_entry, bytes_with_entry, max_entries};

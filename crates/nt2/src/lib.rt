@@ -1,5 +1,6 @@
-// The calls that are exported to C. Of those on a table, heads become numbers, the call is made on them, and they become heads again.
+// The calls as C has them. Of those on a table, heads become numbers, the call is made on them, and they become heads again.
 #![tactic(auto)]
+
 ghost use Rattle.std.specs.Prelude.{◌≡◌, []};
 ghost use Rattle.protocol.specs.Judge.{open_connection, leave, client_message, local_create, local_write};
 ghost use Rattle.protocol.specs.Lent.{lent_call};
@@ -15,13 +16,7 @@ use fields::Fields;
 use flat::ScalarAnswer;
 use heads::Head;
 
-#[unsafe(no_mangle)]
-pub extern "C" fn nt2_fresh(
-    heads: &[Head],
-    bytes: &[u8],
-    count: &mut u16,
-    marks: &mut [u8],
-) -> Answer
+pub fn nt2_fresh(heads: &[Head], bytes: &[u8], count: &mut u16, marks: &mut [u8]) -> Answer
     ensures { Started (lent heads.now bytes.now count.old marks.old) result
         (lent heads.now bytes.now count.new marks.new) }
 {
@@ -33,8 +28,7 @@ pub extern "C" fn nt2_fresh(
     flat::fresh_flat(&flat, bytes, count, marks)
 }
 
-#[unsafe(no_mangle)]
-pub extern "C" fn nt2_open(
+pub fn nt2_open(
     heads: &[Head],
     bytes: &[u8],
     count: &mut u16,
@@ -53,8 +47,7 @@ pub extern "C" fn nt2_open(
     flat::open_flat(&flat, bytes, count, marks, connection)
 }
 
-#[unsafe(no_mangle)]
-pub extern "C" fn nt2_leave(
+pub fn nt2_leave(
     heads: &[Head],
     bytes: &[u8],
     count: &mut u16,
@@ -73,8 +66,7 @@ pub extern "C" fn nt2_leave(
     flat::leave_flat(&flat, bytes, count, marks, connection)
 }
 
-#[unsafe(no_mangle)]
-pub extern "C" fn nt2_receive(
+pub fn nt2_receive(
     heads: &mut [Head],
     bytes: &mut [u8],
     count: &mut u16,
@@ -97,8 +89,7 @@ pub extern "C" fn nt2_receive(
     r
 }
 
-#[unsafe(no_mangle)]
-pub extern "C" fn nt2_create(
+pub fn nt2_create(
     heads: &mut [Head],
     bytes: &mut [u8],
     count: &mut u16,
@@ -122,8 +113,7 @@ pub extern "C" fn nt2_create(
     r
 }
 
-#[unsafe(no_mangle)]
-pub extern "C" fn nt2_write(
+pub fn nt2_write(
     heads: &mut [Head],
     bytes: &mut [u8],
     count: &mut u16,
@@ -146,8 +136,7 @@ pub extern "C" fn nt2_write(
     r
 }
 
-#[unsafe(no_mangle)]
-pub extern "C" fn nt2_read(heads: &[Head], bytes: &[u8], count: &mut u16, id: u16) -> ScalarAnswer
+pub fn nt2_read(heads: &[Head], bytes: &[u8], count: &mut u16, id: u16) -> ScalarAnswer
     ensures { EntryRead (lent_table heads.now bytes.now count.old) id result
         (lent_table heads.now bytes.now count.new) }
 {
@@ -159,8 +148,7 @@ pub extern "C" fn nt2_read(heads: &[Head], bytes: &[u8], count: &mut u16, id: u1
     flat::read_flat(&flat, bytes, count, id)
 }
 
-#[unsafe(no_mangle)]
-pub extern "C" fn nt2_copy_fresh(heads: &[Head], bytes: &[u8], count: &mut u16) -> Answer
+pub fn nt2_copy_fresh(heads: &[Head], bytes: &[u8], count: &mut u16) -> Answer
     ensures { CopyStarted (lent_table heads.now bytes.now count.old) result
         (lent_table heads.now bytes.now count.new) }
 {
@@ -172,8 +160,7 @@ pub extern "C" fn nt2_copy_fresh(heads: &[Head], bytes: &[u8], count: &mut u16) 
     flat::copy_fresh_flat(&flat, bytes, count)
 }
 
-#[unsafe(no_mangle)]
-pub extern "C" fn nt2_copy_receive(
+pub fn nt2_copy_receive(
     heads: &mut [Head],
     bytes: &mut [u8],
     count: &mut u16,
@@ -195,8 +182,7 @@ pub extern "C" fn nt2_copy_receive(
 // ---- messages, with no table
 
 // One message from its fields.
-#[unsafe(no_mangle)]
-pub extern "C" fn nt2_encode(
+pub fn nt2_encode(
     kind: u8,
     revision: u16,
     name: &[u8],
@@ -223,8 +209,7 @@ pub extern "C" fn nt2_encode(
 }
 
 // One message's fields, any kind and ID; an update's type is given.
-#[unsafe(no_mangle)]
-pub extern "C" fn nt2_decode(bytes: &[u8], update_type: u8) -> Fields
+pub fn nt2_decode(bytes: &[u8], update_type: u8) -> Fields
     ensures { fields_in result ≡ fields_with_place (parse_message update_type bytes.now) }
 {
     fields::decode(bytes, update_type)

@@ -1,5 +1,6 @@
-// A whole delivery at once, exported to C: heads become numbers once, all messages are taken on them, and they become heads again.
+// A whole delivery at once, as C has it: heads become numbers once, all messages are taken on them, and they become heads again.
 #![tactic(auto)]
+
 ghost use Rattle.std.specs.Prelude.{◌≡◌};
 ghost use Rattle.nt2.specs.Lent.{lent};
 ghost use Rattle.nt2_deliver.specs.Lent.{heads_delivered, heads_delivery};
@@ -9,8 +10,7 @@ use field::DONE;
 use heads::Head;
 
 // Messages before a refusal may have changed heads too, so these are stored whatever the number.
-#[unsafe(no_mangle)]
-pub extern "C" fn nt2_deliver(
+pub fn nt2_deliver(
     heads: &mut [Head],
     bytes: &mut [u8],
     count: &mut u16,

@@ -1,5 +1,6 @@
-// A line record run again, exported to C: heads become numbers once, all records are done on them, and they become heads again.
+// A line record run again, as C has it: heads become numbers once, all records are done on them, and they become heads again.
 #![tactic(auto)]
+
 ghost use Rattle.std.specs.Prelude.{◌≡◌};
 ghost use Rattle.nt2.specs.Lent.{lent};
 ghost use Rattle.nt2_replay.specs.Lent.{heads_replayed, heads_replay};
@@ -9,8 +10,7 @@ use heads::Head;
 use replay::Replayed;
 
 // Records before a refused one have changed heads too, so these are stored whatever the number.
-#[unsafe(no_mangle)]
-pub extern "C" fn nt2_replay(
+pub fn nt2_replay(
     heads: &mut [Head],
     bytes: &mut [u8],
     count: &mut u16,

@@ -1,5 +1,6 @@
-// Saving and loading a table, exported to C: heads become numbers, and those of a load become heads again.
+// Saving and loading a table, as C has it: heads become numbers, and those of a load become heads again.
 #![tactic(auto)]
+
 ghost use Rattle.std.specs.Prelude.{◌≡◌};
 ghost use Rattle.saved.specs.Calls.{save_result};
 ghost use Rattle.nt2.specs.Lent.{lent, lent_table, heads_loaded, heads_load};
@@ -8,8 +9,7 @@ ghost use Rattle.nt2_saved.specs.Lent.{heads_save};
 use answer::Answer;
 use heads::Head;
 
-#[unsafe(no_mangle)]
-pub extern "C" fn nt2_save(heads: &[Head], bytes: &[u8], count: &u16, out: &mut [u8]) -> Answer
+pub fn nt2_save(heads: &[Head], bytes: &[u8], count: &u16, out: &mut [u8]) -> Answer
     ensures { save_result result out.new
         ≡ heads_save (lent_table heads.now bytes.now count.now) out.old }
 {
@@ -21,8 +21,7 @@ pub extern "C" fn nt2_save(heads: &[Head], bytes: &[u8], count: &u16, out: &mut 
     save::save(&flat, bytes, count, out)
 }
 
-#[unsafe(no_mangle)]
-pub extern "C" fn nt2_load(
+pub fn nt2_load(
     heads: &mut [Head],
     bytes: &mut [u8],
     count: &mut u16,

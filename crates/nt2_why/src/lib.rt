@@ -1,5 +1,6 @@
-// Why a client's message is done, ignored or refused, exported to C: heads become numbers, and nothing is changed.
+// Why a client's message is done, ignored or refused, as C has it: heads become numbers, and nothing is changed.
 #![tactic(auto)]
+
 ghost use Rattle.std.specs.Prelude.{◌≡◌};
 ghost use Rattle.nt2.specs.Lent.{lent};
 ghost use Rattle.nt2_why.specs.Lent.{heads_why};
@@ -7,8 +8,7 @@ ghost use Rattle.nt2_why.specs.Lent.{heads_why};
 use heads::Head;
 use why::ReasonAnswer;
 
-#[unsafe(no_mangle)]
-pub extern "C" fn nt2_why(
+pub fn nt2_why(
     heads: &[Head],
     bytes: &[u8],
     count: &u16,

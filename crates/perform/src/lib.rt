@@ -1,5 +1,6 @@
 // What a verdict on a client's message does: the answer, the output, and lent memory afterwards.
 #![tactic(auto)]
+
 ghost use Rattle.std.specs.Prelude.{◌≡◌, true, ◌+◌, ◌≤◌, ◌<◌, length};
 ghost use Rattle.table.specs.Table.{TableMemory, lent, max_entries};
 ghost use Rattle.soundness.specs.Sound.{sound_table, connections};

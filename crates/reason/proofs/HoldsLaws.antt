@@ -13,7 +13,7 @@ use Rattle.field.specs.Octets.{decode16}
 use Rattle.field.proofs.ChoiceLaws.{by_test}
 use Rattle.field.proofs.EqualLaws.{bytes_equal_true}
 use Rattle.sequence.specs.SequenceNumber.{half, distance, passed_by}
-use Rattle.message.specs.Layout.{Entry, hello, assignment, update, keep_alive_kind, hello_kind, assignment_kind, update_kind, layout}
+use Rattle.message.specs.Layout.{Entry, hello, assignment, keep_alive_kind, hello_kind, assignment_kind, update_kind, layout}
 use Rattle.message.specs.Reader.{id_allowed, name_in, entry_in, update_value_in, Bytes, BeginsWith}
 use Rattle.message.specs.declared.AllowedId.TheVariants.{Only}
 use Rattle.message.specs.declared.AssignmentRead.{AssignmentRead}

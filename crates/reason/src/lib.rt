@@ -1,5 +1,6 @@
 // Why a client's message is done, ignored or refused: definitions in specs/, theorems in proofs/.
 #![tactic(auto)]
+
 use field::Fault;
 
 // The check that decides. specs/Reason.antt has the number that goes with each.

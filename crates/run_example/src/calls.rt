@@ -1,6 +1,7 @@
 // The server's calls, and their answers.
 use answer::Answer;
 use script::figure;
+use std::io;
 
 const SPACE: u8 = 32;
 
@@ -74,30 +75,29 @@ pub fn call(
 }
 
 // Number, bytes taken, recipients and bytes sent.
-fn show_all(a: Answer) {
-    script::word(b":");
-    figure(a.number as usize);
-    figure(a.taken);
-    script::word(b" ");
-    io::print_hex(1, a.recipients as u64, 4);
-    figure(a.sent);
+fn show_all(rt: &impl Print, a: &Answer) -> io::Result<()> {
+    script::word(rt, b":")?;
+    figure(rt, a.number as usize)?;
+    figure(rt, a.taken)?;
+    print!(rt; " {:04x}", a.recipients)?;
+    figure(rt, a.sent)
 }
 
 // The first client's run is shown: the whole answer, or its number alone. A line that begins with no letter is a remark.
-pub fn show(s: &[u8], a: Answer, line: u64, weight: u16) {
+pub fn show(rt: &impl Print, s: &[u8], a: &Answer, line: u64, weight: u16) -> io::Result<()> {
     if weight != 1 {
-        return;
+        return Ok(());
     }
     let remark = script::octet(s, 0) < 97;
     if line < WHOLE {
-        script::word(s);
+        script::word(rt, s)?;
         if !remark {
-            show_all(a);
+            show_all(rt, a)?;
         }
     }
     if line < WHOLE || remark {
-        script::end_line();
+        script::end_line(rt)
     } else {
-        figure(a.number as usize);
+        figure(rt, a.number as usize)
     }
 }

@@ -1,6 +1,7 @@
 // A run of calls on stale memory. Each line of standard input is a call, and is printed with its answer; see `script` for its
 // bytes. The run is played for each client in turn: its copy is made of what is sent to it, and compared with the server's table.
 #![tactic(auto)]
+
 mod calls;
 mod copies;
 
@@ -8,6 +9,8 @@ ghost use Rattle.std.specs.Prelude.{◌≤◌, length};
 
 use answer::Answer;
 use copies::Span;
+use std::io;
+use std::io::Read;
 
 const NEWLINE: u8 = 10;
 
@@ -18,7 +21,7 @@ const AGAIN: u8 = 61;
 const LINES: u64 = 765;
 
 // What is sent to another client is not kept, and the answer to a hello begins anew. A client's weight is 2 to the power of its number.
-fn kept(span: Span, start: usize, a: Answer, weight: u16, hello: bool) -> Span {
+fn kept(span: Span, start: usize, a: &Answer, weight: u16, hello: bool) -> Span {
     if weight == 0 || a.recipients / weight % 2 == 0 {
         return span;
     }
@@ -45,6 +48,7 @@ fn lent(span: Span, room: usize, length: usize) -> Span
 }
 
 fn line(
+    rt: &impl Print,
     heads: &mut [u16; table::HEADS_SIZE],
     bytes: &mut [u8; table::BYTES_SIZE],
     count: &mut u16,
@@ -54,7 +58,7 @@ fn line(
     span: Span,
     n: u64,
     weight: u16,
-) -> Span {
+) -> io::Result<Span> {
     let mut record = [0u8; 512];
     let k = calls::decoded(s, n, &mut record);
     let part = lent(span, k.room, out.len());
@@ -70,8 +74,8 @@ fn line(
         calls::taken(&record, k.length),
         &mut out[start..end],
     );
-    calls::show(s, a, n, weight);
-    kept(span, start, a, weight, k.hello)
+    calls::show(rt, s, &a, n, weight)?;
+    Ok(kept(span, start, &a, weight, k.hello))
 }
 
 // Where the next line begins: behind the last one the lines begin again.
@@ -89,6 +93,7 @@ fn next(s: &[u8], end: usize, again: usize) -> usize
 }
 
 fn play(
+    rt: &impl Print,
     heads: &mut [u16; table::HEADS_SIZE],
     bytes: &mut [u8; table::BYTES_SIZE],
     count: &mut u16,
@@ -96,7 +101,7 @@ fn play(
     out: &mut [u8],
     s: &[u8],
     weight: u16,
-) -> Span {
+) -> io::Result<Span> {
     let again = script::find(s, 0, AGAIN);
     let mut span = Span { start: 0, end: 0 };
     let mut at = 0;
@@ -104,6 +109,7 @@ fn play(
     while n < LINES {
         let end = script::find(s, at, NEWLINE);
         span = line(
+            rt,
             heads,
             bytes,
             count,
@@ -113,31 +119,30 @@ fn play(
             span,
             n,
             weight,
-        );
+        )?;
         at = next(s, end, again);
         n += 1;
     }
-    span
+    Ok(span)
 }
 
-fn run(s: &[u8], client: usize, weight: u16) {
+fn run(rt: &impl Print, s: &[u8], client: usize, weight: u16) -> io::Result<()> {
     let mut heads = [0xA5A5u16; table::HEADS_SIZE];
     let mut bytes = [0xA5u8; table::BYTES_SIZE];
     let mut count = 0xA5A5u16;
     let mut marks = [0xA5u8; 16];
     let mut out = [0xA5u8; 65536];
     let span = play(
-        &mut heads, &mut bytes, &mut count, &mut marks, &mut out, s, weight,
-    );
-    copies::compare(&mut heads, &mut bytes, &mut count, &out, span, client);
+        rt, &mut heads, &mut bytes, &mut count, &mut marks, &mut out, s, weight,
+    )?;
+    copies::compare(rt, &mut heads, &mut bytes, &mut count, &out, span, client)
 }
 
-fn main() {
-    let mut input = [0u8; 16384];
-    let n = io::read_full(0, &mut input);
-    let s = script::before(&input, n);
-    run(s, 0, 1);
-    run(s, 1, 2);
-    run(s, 2, 4);
-    run(s, 3, 8);
+fn main(rt: HostRuntime) -> io::Result<()> {
+    let mut input = Vec::new(rt.alloc());
+    rt.stdin().take(16384).read_to_end(&mut input)?;
+    run(&rt, &input, 0, 1)?;
+    run(&rt, &input, 1, 2)?;
+    run(&rt, &input, 2, 4)?;
+    run(&rt, &input, 3, 8)
 }

@@ -1,5 +1,6 @@
 // Saving a table: its saved form is written into a lent output.
 #![tactic(auto)]
+
 ghost use Rattle.std.specs.Prelude.{◌≡◌, ◌+◌, ◌≤◌, ◌<◌, length, replicate};
 ghost use Rattle.field.specs.Octets.{overwrite_at};
 ghost use Rattle.value.specs.Value.{max_value_size};

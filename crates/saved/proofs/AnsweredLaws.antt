@@ -6,7 +6,6 @@ use native.Mathlib.Omega.{arith}
 use lib.ListN.{length}
 use borrow.Author.Tests.{le-leb, lt-leb}
 use Rattle.field.specs.Choice.{pick}
-use Rattle.field.specs.declared.Fault.{Fault}
 use Rattle.field.proofs.ChoiceLaws.{by_test}
 use Rattle.answer.specs.Answers.{done_answer}
 use Rattle.table.specs.Table.{TableMemory}

@@ -15,7 +15,7 @@ use Rattle.value.proofs.ValueLaws.{value_small, value_known, lone_taken}
 use Rattle.message.specs.Layout.{Entry, WellFormed, max_name_length}
 use Rattle.table.specs.Table.{part}
 use Rattle.saved.specs.Form.{entry_kind, opening_size, name_place, type_place, number_place, value_length_place, value_place, entry_record_size, entry_record}
-use Rattle.saved.specs.Reading.{all_zero, name_length_in, type_in, value_length_in, record_entry, parse_opening, parse_filling, parse_name_in, parse_up_to_type, parse_value_in, parse_from_type, parse_record}
+use Rattle.saved.specs.Reading.{name_length_in, type_in, value_length_in, record_entry, parse_opening, parse_filling, parse_name_in, parse_up_to_type, parse_value_in, parse_from_type, parse_record}
 use Rattle.saved.proofs.ZeroLaws.{all_zero_lem}
 use Rattle.saved.proofs.RecordLaws.{NamedFacts, ValuedFacts, record_then, record_then_lem}
 

@@ -1,17 +1,16 @@
 -- What holds of saving and loading.
-use mathlib.Core.Path.{◌≡◌, refl, sym, ap, subst, ◌∙◌}
-use mathlib.Core.Bool.{true, ◌&&◌, and-eq-true_iff}
+use mathlib.Core.Path.{◌≡◌, refl, sym, ap, ◌∙◌}
+use mathlib.Core.Bool.{true, and-eq-true_iff}
 use mathlib.Core.List.{List, [], ◌++◌}
-use Prim.Native.Nat.{ℕ, ◌+◌, ◌*◌, ◌≤◌, ◌<◌}
+use Prim.Native.Nat.{ℕ, ◌*◌, ◌≤◌, ◌<◌}
 use native.Mathlib.Nat.{zero-add}
 use native.Mathlib.Omega.{arith}
-use lib.ListN.{length, take, drop}
+use lib.ListN.{length, drop}
 use lib.Seq.{take_at, drop_at}
 use borrow.Author.Tests.{leb-true}
-use Rattle.field.specs.Answer.{wrong_state, output_too_short, unsound}
+use Rattle.field.specs.Answer.{wrong_state, unsound}
 use Rattle.field.specs.Choice.{pick}
 use Rattle.field.specs.Octets.{overwrite_at}
-use Rattle.field.specs.declared.Fault.{Fault}
 use Rattle.field.proofs.ChoiceLaws.{by_test}
 use Rattle.field.proofs.OverwriteLaws.{overwrite_eq}
 use Rattle.answer.specs.Answers.{bare_answer, refused_answer, done_answer}
@@ -27,7 +26,7 @@ use Rattle.soundness.proofs.StoredLaws.{entries_well_formed, entries_differ, ent
 use Rattle.saved.specs.Form.{saved_size, saved_form}
 use Rattle.saved.specs.Reading.{Reading, refused, read, read_saved}
 use Rattle.saved.specs.Calls.{SaveResult, save_result, save, LoadResult, load_result, all_closed, store_all, load_read, load}
-use Rattle.saved.specs.Loaded.{Saved, SaveGivesForm, OneTableOfForm, Loadable, Gives, LoadsWhatWasSaved, LoadsWhereClosed, LoadsFormsOnly, OneFormOfTable, LoadedIsSound, RefusedLoadKeeps, Covered, LoadChangesEntries}
+use Rattle.saved.specs.Loaded.{Saved, SaveGivesForm, OneTableOfForm, Loadable, LoadsWhatWasSaved, LoadsWhereClosed, LoadsFormsOnly, OneFormOfTable, LoadedIsSound, RefusedLoadKeeps, Covered, LoadChangesEntries}
 use Rattle.saved.proofs.ReadingLaws.{Fresh, SavedIs, saved_is, saved_back, length_form, sound_fresh}
 use Rattle.saved.proofs.StoringLaws.{stored_all, count_all, kept_from_empty}
 

@@ -1,11 +1,11 @@
 -- Entries stored one behind the other.
 use mathlib.Core.Path.{◌≡◌, refl, sym, ap, ◌∙◌}
 use mathlib.Core.Bool.{true}
-use mathlib.Core.Logic.{inl, inr, ⊎_elim}
+use mathlib.Core.Logic.{⊎_elim}
 use mathlib.Core.List.{List, [], ◌∷◌, ◌++◌, append_assoc, append-nil}
-use Prim.Native.Nat.{ℕ, suc, ◌+◌, ◌*◌, ◌≤◌, ◌<◌}
+use Prim.Native.Nat.{ℕ, ◌+◌, ◌*◌, ◌≤◌, ◌<◌}
 use native.Mathlib.Omega.{arith}
-use lib.ListN.{length, get_or, length-append}
+use lib.ListN.{length, length-append}
 use lib.Seq.{get_or_at}
 use Rattle.message.specs.Layout.{Entry}
 use Rattle.table.specs.Table.{TableMemory, head_size, name_start, value_start, entries_of, default_entry, store_entry}
@@ -61,6 +61,7 @@ kept_all (e ∷ es) m =
     }
 
 covered_of : (xs es : List Entry) (p : ℕ) → CoveredFrom (length xs) es p → Covered (xs ++ es) p
+covered_of xs [] p c = elim c [ ]
 covered_of xs (e ∷ es) p (CoveredFrom.name_here w) =
     Covered.by_name (length xs) (omega (arith, length-append xs (e ∷ es))) (rw (get_or_at xs e es default_entry (length xs) refl) w)
 covered_of xs (e ∷ es) p (CoveredFrom.value_here w) =
@@ -68,7 +69,6 @@ covered_of xs (e ∷ es) p (CoveredFrom.value_here w) =
 covered_of xs (e ∷ es) p (CoveredFrom.later c) =
     let long : length xs + 1 ≡ length (xs ++ (e ∷ [])) = omega (arith, length-append xs (e ∷ [])) in
     rw (append_assoc xs (e ∷ []) es) at (covered_of (xs ++ (e ∷ [])) es p (rw long at c))
-covered_of xs [] p x' = elim x' [ ]
 
 -- from an empty table on
 pub kept_from_empty : (es : List Entry) (m : TableMemory) → m.count ≡ 0 → SameBut (λ p. p < head_size * length es) (Covered es) m (store_all m es)

@@ -1,5 +1,6 @@
 // The saved form of a table: its layout. Definitions are in specs/, theorems in proofs/.
 #![tactic(auto)]
+
 ghost use Rattle.std.specs.Prelude.{◌≡◌, ◌≤◌};
 ghost use Rattle.table.specs.Table.{max_entries};
 ghost use Rattle.saved.specs.Form.{saved_size};

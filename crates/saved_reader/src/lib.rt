@@ -1,5 +1,6 @@
 // The reader of a saved form's records, left to right.
 #![tactic(auto)]
+
 ghost use Rattle.std.specs.Prelude.{◌≡◌, ◌&&◌, ◌≤◌, eqb, length};
 ghost use Rattle.value.specs.Value.{max_value_size};
 ghost use Rattle.message.specs.Layout.{max_name_length};

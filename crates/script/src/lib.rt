@@ -3,7 +3,10 @@
 //   ?0A     a byte below this one, here below 10, that the seed and the place in the line choose
 // Answers are printed behind their line.
 #![tactic(auto)]
+
 ghost use Rattle.std.specs.Prelude.{◌≤◌, ◌<◌, length};
+
+use std::io;
 
 const SPACE: u8 = 32;
 
@@ -11,18 +14,17 @@ const TIMES: u8 = 42;
 
 const BELOW: u8 = 63;
 
-pub fn word(s: &[u8]) {
-    io::write_all(1, s);
+pub fn word(rt: &impl Print, s: &[u8]) -> io::Result<()> {
+    rt.write_all(s)
 }
 
-pub fn end_line() {
-    word(b"\n");
+pub fn end_line(rt: &impl Print) -> io::Result<()> {
+    word(rt, b"\n")
 }
 
 // A space and a number.
-pub fn figure(n: usize) {
-    word(b" ");
-    io::print_decimal(1, n as u64);
+pub fn figure(rt: &impl Print, n: usize) -> io::Result<()> {
+    print!(rt; " {n}")
 }
 
 pub fn least(a: usize, b: usize) -> usize

@@ -1,5 +1,6 @@
 // The server half: each call on a lent table, with its connection marks and an output. A call judges soundness, judges, and performs.
 #![tactic(auto)]
+
 ghost use Rattle.std.specs.Prelude.{◌≡◌, ◌&&◌, ℕ, List, []};
 ghost use Rattle.table.specs.Table.{lent, max_entries};
 ghost use Rattle.soundness.specs.Sound.{sound_table, sound_marks};

@@ -1,5 +1,6 @@
 // The fresh starts: of the server's memory here, of a copy in `copy`.
 #![tactic(auto)]
+
 mod copy;
 
 ghost use Rattle.std.specs.Prelude.{◌≡◌, ◌≤◌, length, replicate};

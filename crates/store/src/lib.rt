@@ -1,5 +1,6 @@
 // What a verdict on a mark, a new entry or another value does: the answer, the output, and lent memory afterwards.
 #![tactic(auto)]
+
 ghost use Rattle.std.specs.Prelude.{◌≡◌, true, ℕ, ◌+◌, ◌≤◌, ◌<◌, List, length, set};
 ghost use Rattle.answer.specs.Answers.{done_answer};
 ghost use Rattle.table.specs.Table.{TableMemory, Holds, lent, store_entry, max_entries};

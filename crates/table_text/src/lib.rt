@@ -1,5 +1,6 @@
 // A table as lines of text in a lent buffer.
 #![tactic(auto)]
+
 ghost use Rattle.std.specs.Prelude.{◌≡◌, ◌∷◌, [], ◌+◌, ◌/◌, ◌%◌, ◌≤◌, take};
 ghost use Rattle.message.specs.Lent.{lent_entry};
 ghost use Rattle.table.specs.Table.{entry_at, lent, entries_of, Readable};

@@ -1,9 +1,13 @@
 // Both sides of every limit, the UTF-8 cases, the comparisons P1 to P10, messages of all kinds, whole, cut and damaged, and as
 // the writer makes them. Each line of standard input is a case, and is printed with its answer; see `script` for its bytes.
 #![tactic(auto)]
+
 mod cases;
 mod print;
 mod writing;
+
+use std::io;
+use std::io::Read;
 
 const SPACE: u8 = 32;
 
@@ -11,40 +15,41 @@ const NEWLINE: u8 = 10;
 
 // What stands before the bytes, by the word that the line begins with: allowed: the one ID; cut, message: the type of
 // updates; number, passed, text: nothing; value: its type; write: kind, type, room (2), the name's length and the name.
-fn case(first: u8, s: &[u8]) {
+fn case(rt: &impl Print, first: u8, s: &[u8]) -> io::Result<()> {
     match first {
-        b'a' => cases::allowed(s),
-        b'c' => cases::cuts(script::octet(s, 0), script::after(s, 1)),
-        b'm' => cases::message(s),
-        b'n' => cases::next(s),
-        b'p' => cases::passed(s),
-        b't' => cases::text(s),
-        b'v' => cases::value(s),
-        b'w' => writing::case(s),
-        _ => {}
+        b'a' => cases::allowed(rt, s),
+        b'c' => cases::cuts(rt, script::octet(s, 0), script::after(s, 1)),
+        b'm' => cases::message(rt, s),
+        b'n' => cases::next(rt, s),
+        b'p' => cases::passed(rt, s),
+        b't' => cases::text(rt, s),
+        b'v' => cases::value(rt, s),
+        b'w' => writing::case(rt, s),
+        _ => Ok(()),
     }
 }
 
-fn line(s: &[u8], bytes: &mut [u8]) {
-    script::word(s);
+fn line(rt: &impl Print, s: &[u8], bytes: &mut [u8]) -> io::Result<()> {
+    script::word(rt, s)?;
     let start = script::find(s, 0, SPACE);
     let n = script::decode(s, start, 0, bytes);
-    case(script::octet(s, 0), &bytes[0..n]);
-    script::end_line();
+    case(rt, script::octet(s, 0), &bytes[0..n])?;
+    script::end_line(rt)
 }
 
-fn run(s: &[u8], bytes: &mut [u8]) {
+fn run(rt: &impl Print, s: &[u8], bytes: &mut [u8]) -> io::Result<()> {
     let mut at = 0;
     while at < s.len() {
         let end = script::find(s, at, NEWLINE);
-        line(&s[at..end], bytes);
+        line(rt, &s[at..end], bytes)?;
         at = end + 1;
     }
+    Ok(())
 }
 
-fn main() {
-    let mut input = [0u8; 16384];
+fn main(rt: HostRuntime) -> io::Result<()> {
+    let mut input = Vec::new(rt.alloc());
     let mut bytes = [0u8; 512];
-    let n = io::read_full(0, &mut input);
-    run(&input[..n], &mut bytes);
+    rt.stdin().take(16384).read_to_end(&mut input)?;
+    run(&rt, &input, &mut bytes)
 }

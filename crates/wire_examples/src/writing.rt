@@ -1,6 +1,7 @@
 // A case of the message writer: what is sent is read back, and the bytes past it must be as lent.
 use crate::print;
 use answer::Answer;
+use std::io;
 
 // What every byte of a lent output is.
 const LENT: u8 = 0xA5;
@@ -14,35 +15,37 @@ const ID: u16 = 0x0102;
 
 const NUMBER: u16 = 0x0304;
 
-fn octet(b: u8) {
-    io::print_hex(1, b as u64, 2);
+fn octet(rt: &impl Print, b: u8) -> io::Result<()> {
+    print!(rt; "{b:02x}")
 }
 
-fn hex(s: &[u8]) {
+fn hex(rt: &impl Print, s: &[u8]) -> io::Result<()> {
     let mut i = 0;
     while i < s.len() {
-        octet(s[i]);
+        octet(rt, s[i])?;
         i += 1;
     }
+    Ok(())
 }
 
-fn sent_of(a: Answer) -> usize {
+fn sent_of(rt: &impl Print, a: Answer) -> io::Result<usize> {
     if a.number != field::DONE {
-        print::refused(a.number, a.place);
+        print::refused(rt, a.number, a.place)?;
     }
-    a.sent
+    Ok(a.sent)
 }
 
-fn show(out: &[u8], lent: &[u8], sent: usize, update_type: u8) {
+fn show(rt: &impl Print, out: &[u8], lent: &[u8], sent: usize, update_type: u8) -> io::Result<()> {
     let m = script::before(out, sent);
     if m.len() > 0 {
-        script::word(b" = ");
-        hex(script::before(m, SHOWN));
-        print::decoded(message::read_message(m, update_type));
+        script::word(rt, b" = ")?;
+        hex(rt, script::before(m, SHOWN))?;
+        print::decoded(rt, message::read_message(m, update_type))?;
     }
     if !field::same_bytes(script::after(out, sent), script::after(lent, sent)) {
-        script::word(b" and more");
+        script::word(rt, b" and more")?;
     }
+    Ok(())
 }
 
 // Kind, type, room (2), the name's length, name and value.
@@ -62,9 +65,10 @@ fn write(s: &[u8], out: &mut [u8]) -> Answer {
     )
 }
 
-pub fn case(s: &[u8]) {
+pub fn case(rt: &impl Print, s: &[u8]) -> io::Result<()> {
     let mut out = [LENT; 400];
     let lent = [LENT; 400];
     let a = write(s, &mut out);
-    show(&out, &lent, sent_of(a), script::octet(s, 1));
+    let sent = sent_of(rt, a)?;
+    show(rt, &out, &lent, sent, script::octet(s, 1))
 }
