@@ -1,5 +1,6 @@
 // Messages of the plant's own code in a line record: local calls.
 #![tactic(auto)]
+
 ghost use Rattle.std.specs.Prelude.{◌≡◌, true, List, ℕ};
 ghost use Rattle.field.specs.Choice.{pick};
 ghost use Rattle.answer.specs.Answers.{goes_on};
