@@ -1,5 +1,6 @@
 // The bytes that a connection gathers, and the calls that are made on them.
 #![tactic(auto)]
+
 ghost use Rattle.std.specs.Prelude.{◌≡◌, true, ◌+◌, ◌-◌, ◌≤◌, length, take, drop};
 ghost use Rattle.table.specs.Table.{TableMemory, max_entries};
 ghost use Rattle.soundness.specs.Sound.{sound_table, sound_marks, connections};
