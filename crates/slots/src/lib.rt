@@ -1,5 +1,6 @@
 // What the connections hold, a slot for each, and one record of a line record on it.
 #![tactic(auto)]
+
 ghost use Rattle.std.specs.Prelude.{◌≡◌, ◌≢◌, true, ◌≤◌, ◌<◌, length, set, eqb};
 ghost use Rattle.field.specs.Answer.{done};
 ghost use Rattle.field.specs.Choice.{pick};
