@@ -9,7 +9,7 @@ use lib.Seq.{drop-drop}
 use Rattle.field.specs.Answer.{done}
 use Rattle.table.specs.Table.{max_entries}
 use Rattle.protocol.specs.Step.{ServerMemory, LentCall}
-use Rattle.line_record.specs.Record.{Record, NextRecord, refused_record, found, next_record}
+use Rattle.line_record.specs.Record.{Record, refused_record, found, next_record}
 use Rattle.line_record.specs.Replay.{RunState, step_record, advance_on, advance, Ran, stopped, behind, run, ReplayResult, result_of}
 use Rattle.line_record.proofs.NextLaws.{advance_done}
 use Rattle.line_record.proofs.AnsweredLaws.{record_refused}

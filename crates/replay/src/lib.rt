@@ -1,5 +1,6 @@
 // A line record run again: the fresh start, then record after record.
 #![tactic(auto)]
+
 ghost use Rattle.std.specs.Prelude.{◌≡◌, ◌*◌, ◌≤◌, length, replicate};
 ghost use Rattle.table.specs.Table.{max_entries};
 ghost use Rattle.protocol.specs.Lent.{lent_server};
