@@ -1,3 +1,2 @@
 pub mod ZeroLaws
-pub mod OpeningLaws
-pub mod RecordLaws
+pub mod ValueLaws

@@ -15,6 +15,7 @@ use saved::{
 };
 
 // How a record opens: its kind, and a byte that is at most so much.
+#[tactic(auto, unfolding(saved::specs::Reading::parse_opening, field::specs::Field::octet_at, field::specs::Choice::pick))]
 fn read_opening(s: &[u8], kind: u8, most: usize) -> Parsed
     ensures { result ≡ parse_opening kind most s.now }
 {
@@ -54,6 +55,7 @@ fn is_zero(s: &[u8]) -> bool
 }
 
 // The filling from one place to another.
+#[tactic(auto, unfolding(saved::specs::Reading::parse_filling, field::specs::Choice::pick))]
 fn read_filling(s: &[u8], from: usize, to: usize) -> Parsed
     requires { from ≤ to }
     ensures { result ≡ parse_filling from to s.now }
@@ -68,6 +70,7 @@ fn read_filling(s: &[u8], from: usize, to: usize) -> Parsed
 }
 
 // A name of so many bytes, and its filling.
+#[tactic(auto, unfolding(saved::specs::Reading::parse_name_in, field::specs::Choice::pick))]
 fn read_name(s: &[u8], name_length: usize) -> Parsed
     requires { (name_length ≡ name_length_in s.now) × (name_length ≤ max_name_length) }
     ensures { result ≡ parse_name_in s.now }
@@ -83,6 +86,7 @@ fn read_name(s: &[u8], name_length: usize) -> Parsed
 }
 
 // Kind, name length, name and filling.
+#[tactic(auto, unfolding(saved::specs::Reading::parse_up_to_type))]
 fn read_up_to_type(s: &[u8]) -> Parsed
     ensures { result ≡ parse_up_to_type s.now }
 {
@@ -94,6 +98,7 @@ fn read_up_to_type(s: &[u8]) -> Parsed
 }
 
 // A value of so many bytes, judged alone, and its filling.
+#[tactic(auto, unfolding(saved::specs::Reading::parse_value_in, field::specs::Choice::pick))]
 fn read_value(s: &[u8], type_code: u8, value_length: usize) -> Parsed
     requires length { (value_length ≡ value_length_in s.now) × (value_length ≤ max_value_size) }
     requires typed { type_code ≡ type_in s.now }
@@ -111,6 +116,7 @@ fn read_value(s: &[u8], type_code: u8, value_length: usize) -> Parsed
 }
 
 // Type, number, value length, value and filling.
+#[tactic(auto, unfolding(saved::specs::Reading::parse_from_type, field::specs::Field::octet_at, field::specs::Field::number_at, field::specs::Choice::pick))]
 fn read_from_type(s: &[u8]) -> Parsed
     ensures { result ≡ parse_from_type s.now }
 {
@@ -134,6 +140,7 @@ fn read_from_type(s: &[u8]) -> Parsed
 }
 
 // An entry's record.
+#[tactic(auto, unfolding(saved::specs::Reading::parse_record))]
 pub fn read_record(s: &[u8]) -> Parsed
     ensures { result ≡ parse_record s.now }
 {
@@ -145,6 +152,7 @@ pub fn read_record(s: &[u8]) -> Parsed
 }
 
 // The first record.
+#[tactic(auto, unfolding(saved::specs::Reading::parse_count))]
 pub fn read_count(s: &[u8]) -> Parsed
     ensures { result ≡ parse_count max_entries s.now }
 {

@@ -1,4 +1,4 @@
--- `read_value` answers `parse_value_in`: one law for each return.
+-- `read_value` answers `parse_value_in`: one law for each return behind the test of the length.
 use mathlib.Core.Path.{ap, ◌∙◌}
 use Prim.Native.Nat.{◌+◌, ◌-◌}
 use native.Mathlib.Omega.{arith}
@@ -7,11 +7,8 @@ use Rattle.field.specs.Field.{fault_of}
 use Rattle.field.specs.declared.Parsed.{Parsed}
 use Rattle.saved.specs.Form.{value_place}
 use Rattle.value.proofs.ValueLaws.{lone_place}
-use Rattle.saved_reader.proofs.RecordLaws.{value_missing, value_refused, value_taken}
+use Rattle.saved_reader.proofs.ValueLaws.{value_refused, value_taken}
 use Rattle.saved_reader.proofs.read_value.Goals as goal
-
-pub returns-then-s-end : goal.returns-then-s-end
-returns-then-s-end c = rw c.fault_at.ensures (value_missing _ _ c.requires.length.0 c.if-s-end.true)
 
 pub moved-requires : goal.moved-requires
 moved-requires c =

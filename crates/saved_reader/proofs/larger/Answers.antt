@@ -1,8 +1,0 @@
-use Rattle.saved_reader.proofs.ZeroLaws.{larger_right, larger_left}
-use Rattle.saved_reader.proofs.larger.Goals as goal
-
-pub returns-then-a-b : goal.returns-then-a-b
-returns-then-a-b c = larger_right c.args.a c.args.b c.if-a-b.true
-
-pub returns-else-a-b : goal.returns-else-a-b
-returns-else-a-b c = larger_left c.args.a c.args.b c.if-a-b.false
