@@ -2,7 +2,7 @@
 use mathlib.Core.Path.{◌≡◌, sym, ◌∙◌}
 use mathlib.Core.Bool.{true}
 use Rattle.field.specs.Choice.{pick}
-use Rattle.table.specs.Table.{table_memory, max_entries}
+use Rattle.table.specs.Table.{TableMemory, table_memory, max_entries}
 use Rattle.soundness.specs.Sound.{sound_table}
 use Rattle.protocol.specs.Copy.{execute_copy, copy_message}
 use Rattle.protocol.specs.Place.{copy_place}
@@ -12,18 +12,9 @@ pub returns-then-not-table_is_sound : goal.returns-then-not-table_is_sound
 unfolding copy_message copy_place execute_copy pick
 returns-then-not-table_is_sound c = rw (c.unsound.ensures, ← c.table_is_sound.ensures, c.if-not-table_is_sound.true)
 
-pub judge_copy-decision-requires : goal.judge_copy-decision-requires
-judge_copy-decision-requires c =
-    let sound : sound_table max_entries ((table_memory c.args.heads.now c.args.bytes.now c.args.count.now)) ≡ true = sym c.table_is_sound.ensures ∙ c.if-not-table_is_sound.false in
-    sound
-
-pub perform-requires : goal.perform-requires
-perform-requires c =
-    let sound : sound_table max_entries ((table_memory c.args.heads.now c.args.bytes.now c.args.count.now)) ≡ true = sym c.table_is_sound.ensures ∙ c.if-not-table_is_sound.false in
-    record { sound = sound; performable = c.judge_copy-decision.ensures.copyable }
-
 pub returns : goal.returns
 unfolding copy_message copy_place pick
 returns c =
-    let sound : sound_table max_entries ((table_memory c.args.heads.now c.args.bytes.now c.args.count.now)) ≡ true = sym c.table_is_sound.ensures ∙ c.if-not-table_is_sound.false in
+    let table : TableMemory = table_memory c.args.heads.now c.args.bytes.now c.args.count.now in
+    let sound : sound_table max_entries table ≡ true = sym c.table_is_sound.ensures ∙ c.if-not-table_is_sound.false in
     rw (sound, ← c.judge_copy-decision.ensures.verdict) c.perform.ensures

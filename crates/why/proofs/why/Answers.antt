@@ -27,21 +27,19 @@ judge_client_message-requires c =
     let sound : SoundCall table c.args.marks.now = sound_call _ _ c.is_sound.result c.is_sound.ensures c.if-not-is_sound.false in
     record { sound = sound.table_is; marks = sound.marks_there }
 
-pub why_ignored-requires : goal.why_ignored-requires
-why_ignored-requires c =
+pub why_ignored-requires-clause-ignored : goal.why_ignored-requires-clause-ignored
+why_ignored-requires-clause-ignored c =
     let table : TableMemory = table_memory c.args.heads.now c.args.bytes.now c.args.count in
     let sound : SoundCall table c.args.marks.now = sound_call _ _ c.is_sound.result c.is_sound.ensures c.if-not-is_sound.false in
-    record {
-      sound = sound.table_is;
-      ignored = ignored_again table c.args.marks.now c.args.m.now c.args.c sound _ _ c.in-Ignore.is c.judge_client_message.ensures;
-    }
+    ignored_again table c.args.marks.now c.args.m.now c.args.c sound _ _ c.in-Ignore.is c.judge_client_message.ensures
 
 pub number_of-requires : goal.number_of-requires
 number_of-requires c =
     let table : TableMemory = table_memory c.args.heads.now c.args.bytes.now c.args.count in
     let sound : SoundCall table c.args.marks.now = sound_call _ _ c.is_sound.result c.is_sound.ensures c.if-not-is_sound.false in
+    let can = c.judge_client_message.ensures.performable in
     let held : c.in-StoreUpdate.id < c.args.count =
-    (known_performable c.args.count c.args.c c.args.m.now _ (D.StoreUpdate c.in-StoreUpdate.id _ _) c.in-StoreUpdate.is c.judge_client_message.ensures.performable).0 in
+    (known_performable c.args.count c.args.c c.args.m.now _ (D.StoreUpdate c.in-StoreUpdate.id _ _) c.in-StoreUpdate.is can).0 in
     omega (arith, held, (sound_holds max_entries table sound.table_is).heads_hold, sound_count max_entries table sound.table_is)
 
 pub returns-in-Refuse : goal.returns-in-Refuse
@@ -79,8 +77,9 @@ unfolding entry_at
 returns-in-StoreUpdate c =
     let table : TableMemory = table_memory c.args.heads.now c.args.bytes.now c.args.count in
     let sound : SoundCall table c.args.marks.now = sound_call _ _ c.is_sound.result c.is_sound.ensures c.if-not-is_sound.false in
+    let can = c.judge_client_message.ensures.performable in
     let held : c.in-StoreUpdate.id < c.args.count =
-    (known_performable c.args.count c.args.c c.args.m.now _ (D.StoreUpdate c.in-StoreUpdate.id _ _) c.in-StoreUpdate.is c.judge_client_message.ensures.performable).0 in
+    (known_performable c.args.count c.args.c c.args.m.now _ (D.StoreUpdate c.in-StoreUpdate.id _ _) c.in-StoreUpdate.is can).0 in
     let number_is = sym (ap (λ (x : Entry). x.number) (entry_get table c.in-StoreUpdate.id default_entry held)) in
     rw (c.why_number.ensures, c.number_of.ensures c.args.bytes.now ∙ number_is)
     (sym (why_decided table c.args.marks.now c.args.m.now c.args.c sound _ _ c.in-StoreUpdate.is c.judge_client_message.ensures))

@@ -14,14 +14,20 @@ returns-then-distance-eq0 c = rw (← c.distance-distance.ensures, eq-eqb c.dist
 pub returns-then-distance : goal.returns-then-distance
 unfolding first_failing number_checks number_reason pick
 returns-then-distance c =
-    rw (← c.distance-distance.ensures, ne_eqb c.distance-distance.result 0 c.if-distance-eq0.false, eq-eqb c.distance-distance.result half c.if-distance.true)
+    let d = c.distance-distance.result in
+    rw (← c.distance-distance.ensures, ne_eqb d 0 c.if-distance-eq0.false, eq-eqb d half c.if-distance.true)
 
 pub returns-then-distance-lt-HALF : goal.returns-then-distance-lt-HALF
 unfolding first_failing number_checks number_reason pick
 returns-then-distance-lt-HALF c =
-    rw (← c.distance-distance.ensures, ne_eqb c.distance-distance.result 0 c.if-distance-eq0.false, ne_eqb c.distance-distance.result half c.if-distance.false, lt-ltb c.distance-distance.result half c.if-distance-lt-HALF.true)
+    let d = c.distance-distance.result in
+    let less = lt-ltb d half c.if-distance-lt-HALF.true in
+    rw (← c.distance-distance.ensures, ne_eqb d 0 c.if-distance-eq0.false, ne_eqb d half c.if-distance.false, less)
 
 pub returns : goal.returns
 unfolding first_failing number_checks number_reason pick
 returns c =
-    rw (← c.distance-distance.ensures, ne_eqb c.distance-distance.result 0 c.if-distance-eq0.false, ne_eqb c.distance-distance.result half c.if-distance.false, le-ltb c.distance-distance.result half c.if-distance-lt-HALF.false, c.distance-back.ensures)
+    let d = c.distance-distance.result in
+    let more = le-ltb d half c.if-distance-lt-HALF.false in
+    let back = c.distance-back.ensures in
+    rw (← c.distance-distance.ensures, ne_eqb d 0 c.if-distance-eq0.false, ne_eqb d half c.if-distance.false, more, back)
