@@ -1,5 +1,6 @@
 // A whole delivery at once: the messages of one connection, judged in order. The table is judged once.
 #![tactic(auto)]
+
 ghost use Rattle.std.specs.Prelude.{◌≡◌};
 ghost use Rattle.table.specs.Table.{max_entries};
 ghost use Rattle.protocol.specs.Kept.{SoundMemory};

@@ -1,5 +1,6 @@
 // What a call answers and changes, without what it sends: for calls that are lent room enough, and whose output nobody reads.
 #![tactic(auto)]
+
 ghost use Rattle.std.specs.Prelude.{◌≡◌, true, List, ℕ, ◌≤◌, length};
 ghost use Rattle.table.specs.Table.{TableMemory, lent, max_entries};
 ghost use Rattle.soundness.specs.Sound.{sound_table, sound_marks, connections};

@@ -1,5 +1,6 @@
 // One message of a delivery: what it sends stands behind a heading.
 #![tactic(auto)]
+
 ghost use Rattle.std.specs.Prelude.{◌≡◌, ◌^◌, ◌<◌, ◌≤◌, min, length};
 ghost use Rattle.field.specs.Octets.{overwrite_at};
 ghost use Rattle.table.specs.Table.{max_entries};

@@ -1,3 +1,4 @@
 pub mod RecordsLaws
 pub mod StoreLaws
 pub mod CallLaws
+pub mod ClosedLaws

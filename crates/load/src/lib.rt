@@ -151,6 +151,7 @@ fn store_records(heads: &mut [u16], bytes: &mut [u8], s: &[u8], count: usize)
 }
 
 // Whether all 16 connections are closed.
+#[tactic(auto, using(crate::proofs::ClosedLaws::closing))]
 fn all_closed(marks: &[u8]) -> bool
     requires { connections ≤ length marks.now }
     ensures { result ≡ calls.all_closed marks.now }

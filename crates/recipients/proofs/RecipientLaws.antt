@@ -27,7 +27,7 @@ bits_more n p = ap (λ (k : ℕ). bit_set k p) (add-one n)
 pub power_more : (n : ℕ) → 2 ^ (n + 1) ≡ 2 ^ n * 2
 power_more n = ap (λ (k : ℕ). 2 ^ k) (add-one n) ∙ pow-suc 2 n
 
-weight_most : (b : Bool) (n : ℕ) → pick b n 0 ≤ n
+pub weight_most : (b : Bool) (n : ℕ) → pick b n 0 ≤ n
 unfolding pick
 weight_most true n = omega arith
 weight_most false n = omega arith

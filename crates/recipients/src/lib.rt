@@ -10,6 +10,7 @@ ghost use Rattle.soundness.specs.Sound.{connections, greeted};
 pub const NO_ONE: usize = soundness::CONNECTIONS;
 
 // The weight of a connection that is greeted and not the one left out, and else 0.
+#[tactic(auto, unfolding(field::specs::Choice::pick))]
 fn weight(mark: u8, c: usize, left_out: usize, power: u32) -> u32
     ensures { result ≡ pick (eqb mark greeted && not (eqb c left_out)) power 0 }
 {

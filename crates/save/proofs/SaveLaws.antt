@@ -1,16 +1,17 @@
 -- Laws of what saving stores.
 use mathlib.Core.Path.{◌≡◌, refl, sym, ap, ◌∙◌}
-use mathlib.Core.Bool.{true}
+use mathlib.Core.Bool.{true, false}
 use mathlib.Core.List.{List, [], ◌∷◌, ◌++◌, append_assoc}
 use Prim.Native.Nat.{ℕ, ◌+◌, ◌-◌, ◌≤◌, ◌<◌}
 use native.Mathlib.Omega.{arith}
 use lib.ListN.{length, take, drop, set, replicate, length-append, length-drop, length-replicate, replicate-append-replicate}
 use lib.Seq.{take_at, drop_at, drop-drop, drop-append-le, length-take-le}
-use borrow.Author.Tests.{le-leb}
+use borrow.Author.Tests.{le-leb, lt-leb}
 use Rattle.field.specs.Choice.{pick}
 use Rattle.field.specs.Octets.{overwrite_at}
 use Rattle.field.proofs.OverwriteLaws.{length_overwrite, overwrite_eq, overwrite_append}
-use Rattle.answer.specs.Answers.{done_answer}
+use Rattle.field.specs.Answer.{output_too_short, unsound}
+use Rattle.answer.specs.Answers.{bare_answer, done_answer}
 use Rattle.message.specs.Layout.{Entry}
 use Rattle.table.specs.Table.{TableMemory, Readable, entry_at, tabulate, entries_of}
 use Rattle.table.proofs.SearchLaws.{name_length_lem, value_length_lem, has_name, has_value}
@@ -99,6 +100,18 @@ form_stored f start out now count i e h s =
     store_behind start 0 (count_record count) out count_record_size (entry_records (tabulate i f)) now h refl s.so_far ∙ rw (e, length_tabulate count f)
 
 -- ---- the call
+
+-- the refusals
+pub save_unsound : (limit : ℕ) (m : TableMemory) (out : List ℕ) → sound_table limit m ≡ false → save limit m out ≡ save_result (bare_answer unsound) out
+unfolding save pick
+save_unsound limit m out h = rw h refl
+
+pub save_short : (limit : ℕ) (m : TableMemory) (out : List ℕ) → sound_table limit m ≡ true → length out < saved_size m.count
+    → save limit m out ≡ save_result (bare_answer output_too_short) out
+unfolding save pick
+save_short limit m out s h = rw (s, lt-leb (saved_size m.count) (length out) h) refl
+
+pub ruleset refusing = (save_unsound, save_short)
 
 -- what is answered and left where the form is stored
 pub form_saved : (limit : ℕ) (m : TableMemory) (out : List ℕ) (size : ℕ) (now : List ℕ) → sound_table limit m ≡ true → size ≡ saved_size m.count

@@ -114,6 +114,7 @@ fn put_form(out: &mut [u8], heads: &[u16], bytes: &[u8], count: usize)
 }
 
 // Saves the table at the start of the output: 14, 12.
+#[tactic(auto, using(crate::proofs::SaveLaws::refusing))]
 pub fn save(heads: &[u16], bytes: &[u8], count: &u16, out: &mut [u8]) -> Answer
     ensures { calls.save_result result out.new
         ≡ calls.save max_entries (lent heads.now bytes.now count.now) out.old }

@@ -1,5 +1,6 @@
 // Why a client's message is done, ignored or refused: the verdict by which the call itself goes, explained.
 #![tactic(auto)]
+
 ghost use Rattle.std.specs.Prelude.{◌≡◌, true, get_or};
 ghost use Rattle.table.specs.Table.{lent, entries_of, max_entries};
 ghost use Rattle.soundness.specs.Sound.{sound_table};

@@ -59,7 +59,7 @@ held_before-requires c =
     let records : Records (c.loop-i.i + 1) c.args.s.now = turn_records turn _ c.in-Taken.is c.loop-i.invariant.3 in
     let print : c.fingerprint-f.result ≡ fingerprint_of (saved_entry c.args.s.now c.loop-i.i).name = c.fingerprint-f.ensures ∙ ap fingerprint_of c.name_in.ensures in
     let few : c.loop-i.i < 64 = omega (arith, c.loop-i-test.true, c.requires.bytes.0) in
-    record { records = (few, records); owner = rw print (covers c.loop-i.owners (saved_entry c.args.s.now) c.loop-i.i c.loop-i.invariant.6) }
+    record { records = (few, records); owner = rw (← print) at (covers c.loop-i.owners (saved_entry c.args.s.now) c.loop-i.i c.loop-i.invariant.6) }
 
 pub returns-then-held_before : goal.returns-then-held_before
 returns-then-held_before c =
