@@ -9,6 +9,13 @@ use lib.ListN.{length, take, drop, length-drop}
 use lib.Seq.{drop-drop, take_all}
 use borrow.Author.Tests.{leb-true, leb-false, lt-ltb, le-ltb, eq-eqb, ne_eqb, eqb-false}
 use Rattle.field.specs.Choice.{pick}
+use Rattle.field.specs.Place.{WithPlace}
+use Rattle.field.proofs.OctetsLaws.{rest_all}
+use Rattle.table.specs.Table.{max_entries}
+use Rattle.answer.specs.declared.Answer.{Answer}
+use Rattle.protocol.specs.Judge.{client_message}
+use Rattle.protocol.specs.Place.{step_with_place}
+use Rattle.protocol.specs.Lent.{lent_call, answered}
 use Rattle.field.proofs.ChoiceLaws.{pick_true, pick_false}
 use Rattle.protocol.specs.Step.{ServerMemory, CallResult}
 use Rattle.protocol.proofs.ProgressLaws.{call_progress}
@@ -115,6 +122,12 @@ module _ {stream : List ℕ} {mem₀ : ServerMemory} {out₀ buffer : List ℕ} 
       where
         whole : messages_text (length (drop offset stream)) offset mem out (drop offset stream) ≡ line_of offset r ++ end_text offset r.memory.table.count
         whole = rw step (message_refused offset mem out (drop offset stream) some (ap (λ (x : CallResult). x.taken) (sym step) ∙ z))
+
+-- the call on what is left of the stream
+pub step_of : (stream : List ℕ) (offset : ℕ) (mem mem' : ServerMemory) (out out' : List ℕ) (a : Answer)
+    → answered a mem' out' ≡ step_with_place max_entries mem (lent_call (client_message 0 (take (length stream - offset) (drop offset stream))) out)
+    → (answered a mem' out').result ≡ message_step mem out (drop offset stream)
+step_of stream offset mem mem' out out' a e = rw (rest_all offset stream) at (ap (λ (r : WithPlace CallResult). r.result) e)
 
 -- a message takes no more than what is left of the stream
 pub step_fits : (stream : List ℕ) (mem : ServerMemory) (out : List ℕ) (offset : ℕ) (r : CallResult) → r ≡ message_step mem out (drop offset stream) → r.taken ≤ length stream - offset

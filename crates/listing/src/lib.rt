@@ -1,5 +1,6 @@
 // The listing of a stream: one line a message, as text in a lent buffer.
 #![tactic(auto)]
+
 ghost use Rattle.std.specs.Prelude.{◌≡◌, ◌<◌, min, length};
 ghost use Rattle.protocol.specs.Lent.{lent_server};
 ghost use Rattle.digits.specs.Put.{Put};
