@@ -1,5 +1,5 @@
 //! The library's fingerprint of a name: names with one fingerprint are compared byte for byte, others
-//! are not. It is `fingerprintOf` of crates/soundness/specs/Fingerprint.antt.
+//! are not. It is `fingerprint_of` of crates/soundness/specs/Fingerprint.antt.
 
 /// Fingerprints that there are.
 const FINGERPRINTS: usize = 1024;
@@ -33,10 +33,10 @@ mod tests {
         for line in [
             "fingerprints = 1024",
             "weights = 256",
-            "weightStep = 161",
-            "weightAt k = 1 + k * weightStep % weights",
-            "weighed (suc k) name = (weighed k name + getD name k 0 * weightAt k) % 2 ^ 16",
-            "fingerprintOf name = weighed (length name) name % fingerprints",
+            "weight_step = 161",
+            "weight_at k = 1 + k * weight_step % weights",
+            "weighed (suc k) name = (weighed k name + slice_index name k * weight_at k) % 2 ^ 16",
+            "fingerprint_of name = weighed (length name) name % fingerprints",
         ] {
             assert!(definition.lines().any(|defined| defined == line), "{line}");
         }
