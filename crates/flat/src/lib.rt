@@ -1,5 +1,6 @@
 // The calls on a table in the form that C's calls hand on to: the count is lent, heads are flat numbers, and the answers are C's structs.
 #![tactic(auto)]
+
 ghost use Rattle.std.specs.Prelude.{◌≡◌, []};
 ghost use Rattle.answer.specs.Answers.{bare_answer};
 ghost use Rattle.table.specs.Table.{lent, max_entries};

@@ -46,7 +46,7 @@ module _ (hs : List Head) (bytes : List ℕ) (count : ℕ) (few : length hs < ma
 -- ---- enough heads, loaded into numbers
 
 module _ (hs : List Head) (xs flat : List ℕ) (l : flat ≡ loaded max_entries hs xs) (enough : max_entries ≤ length hs) (len : length flat ≡ head_numbers) where
-  loaded_is : flat ≡ flat_heads hs
+  pub loaded_is : flat ≡ flat_heads hs
   loaded_is = l ∙ loaded_all hs xs enough (sym (length_loaded max_entries hs xs) ∙ sym (ap length l) ∙ len)
 
   -- calls that only read the heads
@@ -74,10 +74,10 @@ module _ (hs : List Head) (xs flat : List ℕ) (l : flat ≡ loaded max_entries 
 
   -- calls that may change heads, which are then made of the numbers again
   module _ (after : List Head) (ys : List ℕ) (len' : length ys ≡ head_numbers) where
-    stored_is : (number : ℕ) → after ≡ stored (changed number) ys hs → (number ≢ 0 → ys ≡ flat) → flat_heads after ≡ ys
+    pub stored_is : (number : ℕ) → after ≡ stored (changed number) ys hs → (number ≢ 0 → ys ≡ flat) → flat_heads after ≡ ys
     stored_is number a kept = rw a (stored_all hs ys number enough len' (λ ne. kept ne ∙ loaded_is))
 
-    past_is : (number : ℕ) → after ≡ stored (changed number) ys hs → drop max_entries after ≡ drop max_entries hs
+    pub past_is : (number : ℕ) → after ≡ stored (changed number) ys hs → drop max_entries after ≡ drop max_entries hs
     past_is number a = rw a (store_rest hs enough ys number)
 
     pub stored_call : (bytes bytes' marks marks' out : List ℕ) (count count' : ℕ) (k : LentCall) (r : Answer)

@@ -2,7 +2,7 @@
 // it is read and done one record at a time.
 #![tactic(auto)]
 
-ghost use Rattle.std.specs.Prelude.{◌≡◌, ◌+◌, ◌*◌, ◌≤◌, length, replicate, IfOk};
+ghost use Rattle.std.specs.Prelude.{◌≡◌, ◌+◌, ◌*◌, ◌≤◌, length, replicate, IfOk, OnErr};
 ghost use Rattle.table.specs.Table.{max_entries, head_size, entry_size};
 ghost use Rattle.soundness.specs.Sound.{connections};
 ghost use Rattle.protocol.specs.Lent.{lent_server};
@@ -51,7 +51,7 @@ fn read_piece(input: &mut impl Read, piece: &mut [u8]) -> io::Result<usize>
 }
 
 // Does record after record, until the input ends or one is refused, and returns its number. Every loop has to end: this one would
-// after 2^64 records.
+// after 2^64 records. The only error is that of a read: the records before it are done.
 fn run_input(
     input: &mut impl Read,
     heads: &mut [u16],
@@ -84,7 +84,7 @@ fn run_input(
     Ok(DONE)
 }
 
-// The fresh start, the records, and the text.
+// The fresh start, the records, and the text. The only error is that of a read, and leaves the text as it was.
 fn put_replay(
     input: &mut impl Read,
     heads: &mut [u16],
@@ -99,7 +99,8 @@ fn put_replay(
     requires marks { length marks.old ≡ connections }
     requires slots { (sizes.old ≡ replicate recorded_connections 0) × (length slots.old ≡ slot_size * recorded_connections) }
     requires piece { length piece.old ≡ record_head_size + max_arrived }
-    ensures { IfOk result (λ end. Shows (lent_server heads.old bytes.old 0 marks.old) text.old text.new end) }
+    ensures shows { IfOk result (λ end. Shows (lent_server heads.old bytes.old 0 marks.old) text.old text.new end) }
+    ensures unread { OnErr result (text.new ≡ text.old) }
 {
     let mut count: u16 = 0;
     start::fresh(heads, bytes, &mut count, marks);

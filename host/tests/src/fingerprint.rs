@@ -1,5 +1,5 @@
 //! The library's fingerprint of a name: names with one fingerprint are compared byte for byte, others
-//! are not. It is `fingerprintOf` of crates/soundness/specs/Fingerprint.antt.
+//! are not. It is `fingerprint_of` of crates/soundness/specs/Fingerprint.antt.
 
 /// Fingerprints that there are.
 const FINGERPRINTS: usize = 1024;
