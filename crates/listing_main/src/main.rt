@@ -2,7 +2,6 @@
 #![tactic(auto)]
 
 use std::io;
-use std::io::Read;
 
 // Room for a line of 25 bytes for each of 4,096 messages, and for the head line and the end line.
 const TEXT_SIZE: usize = 102500;
@@ -13,10 +12,8 @@ fn show(rt: &impl Print, input: &[u8], text: &mut [u8]) -> io::Result<()> {
 }
 
 fn main(rt: HostRuntime) -> io::Result<()> {
-    let mut input = Vec::new(rt.alloc());
-    rt.stdin()
-        .take(listing::STREAM_SIZE as u64)
-        .read_to_end(&mut input)?;
+    let mut input = [0u8; listing::STREAM_SIZE];
+    let n = script::read_full(&mut rt.stdin(), &mut input)?;
     let mut text = [0u8; TEXT_SIZE];
-    show(&rt, &input, &mut text)
+    show(&rt, &input[..n], &mut text)
 }

@@ -2,7 +2,8 @@
 // it is read and done one record at a time.
 #![tactic(auto)]
 
-ghost use Rattle.std.specs.Prelude.{◌≡◌, ◌+◌, ◌*◌, ◌≤◌, length, replicate, IfOk};
+ghost use Rattle.std.specs.Prelude.{◌≡◌, ◌+◌, ◌*◌, ◌≤◌, length, replicate, IfOk, OnErr};
+ghost use Rattle.field.specs.Answer.{done};
 ghost use Rattle.table.specs.Table.{max_entries, head_size, entry_size};
 ghost use Rattle.soundness.specs.Sound.{connections};
 ghost use Rattle.protocol.specs.Lent.{lent_server};
@@ -21,37 +22,22 @@ const PIECE_SIZE: usize = RECORD_HEAD_SIZE + gather::MAX_ARRIVED;
 // Room for 64 lines, each with at most 258 bytes of a name in quotes, 2,015 of a value and 19 of the rest, and for a refusal's line.
 const TEXT_SIZE: usize = 146700;
 
-// Reads until the buffer is full or the input ends, and returns how many bytes.
-fn read_full(input: &mut impl Read, buffer: &mut [u8]) -> io::Result<usize>
-    ensures { IfOk result (λ n. n ≤ length buffer.new) }
-{
-    let mut end = 0;
-    while end < buffer.len() {
-        let n = input.read(&mut buffer[end..])?;
-        if n == 0 {
-            return Ok(end);
-        }
-        end += n;
-    }
-    Ok(end)
-}
-
 // Reads one record, or what is there of it, and returns how many bytes.
 fn read_piece(input: &mut impl Read, piece: &mut [u8]) -> io::Result<usize>
     requires { length piece.old ≡ record_head_size + max_arrived }
     ensures { IfOk result (λ n. n ≤ record_head_size + max_arrived) }
 {
-    let n = read_full(input, &mut piece[0..RECORD_HEAD_SIZE])?;
+    let n = script::read_full(input, &mut piece[0..RECORD_HEAD_SIZE])?;
     if n < RECORD_HEAD_SIZE {
         return Ok(n);
     }
     let end = RECORD_HEAD_SIZE + replay::data_size(piece[0]);
-    let data = read_full(input, &mut piece[RECORD_HEAD_SIZE..end])?;
+    let data = script::read_full(input, &mut piece[RECORD_HEAD_SIZE..end])?;
     Ok(RECORD_HEAD_SIZE + data)
 }
 
 // Does record after record, until the input ends or one is refused, and returns its number. Every loop has to end: this one would
-// after 2^64 records.
+// after 2^64 records. The only error is that of a read: the records before it are done.
 fn run_input(
     input: &mut impl Read,
     heads: &mut [u16],
@@ -68,6 +54,9 @@ fn run_input(
         Runs (state_of (lent_server heads.old bytes.old count.old marks.old) sizes.old slots.old) number
         (state_of (lent_server heads.new bytes.new count.new marks.new) sizes.new slots.new)) }
     ensures ready { Ready (lent_server heads.new bytes.new count.new marks.new) sizes.new slots.new }
+    ensures unread { OnErr result
+        (Runs (state_of (lent_server heads.old bytes.old count.old marks.old) sizes.old slots.old) done
+        (state_of (lent_server heads.new bytes.new count.new marks.new) sizes.new slots.new)) }
 {
     let mut left: usize = 18446744073709551615;
     while left > 0 {
@@ -84,7 +73,7 @@ fn run_input(
     Ok(DONE)
 }
 
-// The fresh start, the records, and the text.
+// The fresh start, the records, and the text. The only error is that of a read, and leaves the text as it was.
 fn put_replay(
     input: &mut impl Read,
     heads: &mut [u16],
@@ -99,7 +88,8 @@ fn put_replay(
     requires marks { length marks.old ≡ connections }
     requires slots { (sizes.old ≡ replicate recorded_connections 0) × (length slots.old ≡ slot_size * recorded_connections) }
     requires piece { length piece.old ≡ record_head_size + max_arrived }
-    ensures { IfOk result (λ end. Shows (lent_server heads.old bytes.old 0 marks.old) text.old text.new end) }
+    ensures shows { IfOk result (λ end. Shows (lent_server heads.old bytes.old 0 marks.old) text.old text.new end) }
+    ensures unread { OnErr result (text.new ≡ text.old) }
 {
     let mut count: u16 = 0;
     start::fresh(heads, bytes, &mut count, marks);

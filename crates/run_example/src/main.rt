@@ -10,7 +10,6 @@ ghost use Rattle.std.specs.Prelude.{◌≤◌, length};
 use answer::Answer;
 use copies::Span;
 use std::io;
-use std::io::Read;
 
 const NEWLINE: u8 = 10;
 
@@ -139,10 +138,11 @@ fn run(rt: &impl Print, s: &[u8], client: usize, weight: u16) -> io::Result<()> 
 }
 
 fn main(rt: HostRuntime) -> io::Result<()> {
-    let mut input = Vec::new(rt.alloc());
-    rt.stdin().take(16384).read_to_end(&mut input)?;
-    run(&rt, &input, 0, 1)?;
-    run(&rt, &input, 1, 2)?;
-    run(&rt, &input, 2, 4)?;
-    run(&rt, &input, 3, 8)
+    let mut input = [0u8; 16384];
+    let n = script::read_full(&mut rt.stdin(), &mut input)?;
+    let s = script::before(&input, n);
+    run(&rt, s, 0, 1)?;
+    run(&rt, s, 1, 2)?;
+    run(&rt, s, 2, 4)?;
+    run(&rt, s, 3, 8)
 }

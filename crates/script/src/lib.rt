@@ -4,15 +4,31 @@
 // Answers are printed behind their line.
 #![tactic(auto)]
 
-ghost use Rattle.std.specs.Prelude.{◌≤◌, ◌<◌, length};
+ghost use Rattle.std.specs.Prelude.{◌≤◌, ◌<◌, length, IfOk};
 
 use std::io;
+use std::io::Read;
 
 const SPACE: u8 = 32;
 
 const TIMES: u8 = 42;
 
 const BELOW: u8 = 63;
+
+// Reads until the buffer is full or the input ends, and returns how many bytes. The only error is that of a read.
+pub fn read_full(input: &mut impl Read, buffer: &mut [u8]) -> io::Result<usize>
+    ensures { IfOk result (λ n. n ≤ length buffer.new) }
+{
+    let mut end = 0;
+    while end < buffer.len() {
+        let n = input.read(&mut buffer[end..])?;
+        if n == 0 {
+            return Ok(end);
+        }
+        end += n;
+    }
+    Ok(end)
+}
 
 pub fn word(rt: &impl Print, s: &[u8]) -> io::Result<()> {
     rt.write_all(s)

@@ -7,7 +7,6 @@ mod print;
 mod writing;
 
 use std::io;
-use std::io::Read;
 
 const SPACE: u8 = 32;
 
@@ -48,8 +47,8 @@ fn run(rt: &impl Print, s: &[u8], bytes: &mut [u8]) -> io::Result<()> {
 }
 
 fn main(rt: HostRuntime) -> io::Result<()> {
-    let mut input = Vec::new(rt.alloc());
+    let mut input = [0u8; 16384];
     let mut bytes = [0u8; 512];
-    rt.stdin().take(16384).read_to_end(&mut input)?;
-    run(&rt, &input, &mut bytes)
+    let n = script::read_full(&mut rt.stdin(), &mut input)?;
+    run(&rt, &input[..n], &mut bytes)
 }

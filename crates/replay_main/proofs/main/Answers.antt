@@ -14,4 +14,4 @@ put_replay-requires c =
     record { table = (length-replicate {A = ℕ} (head_size * max_entries) 0, length-replicate {A = ℕ} (entry_size * max_entries) 0); marks = length-replicate {A = ℕ} connections 0; slots = (refl, length-replicate {A = ℕ} (slot_size * recorded_connections) 0); piece = length-replicate {A = ℕ} (record_head_size + max_arrived) 0 }
 
 pub slice_bounds-write_all-end : goal.slice_bounds-write_all-end
-slice_bounds-write_all-end c = put_within c.in_ok-end.ensures.shown
+slice_bounds-write_all-end c = put_within c.in_ok-end.ensures.shows.shown

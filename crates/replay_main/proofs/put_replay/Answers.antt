@@ -21,8 +21,8 @@ run_input-requires g c =
 pub put_table-requires : goal.put_table-requires
 put_table-requires g c = sound_readable max_entries _ c.run_input.ensures.ready.sound.table
 
-pub returns : goal.returns
-returns g c =
+pub returns-clause-shows : goal.returns-clause-shows
+returns-clause-shows g c =
     let m = server_memory c.args.heads.now c.args.bytes.now 0 c.args.marks.now in
     let number_is = ap (λ (a : Answer). a.number) c.fresh.ensures.answer in
     let is_done = number_is ∙ start_done m c.requires.table.0 c.requires.table.1 c.requires.marks in
