@@ -1,12 +1,11 @@
 -- Laws of `bytes_equal`.
 use mathlib.Core.Path.{◌≡◌, refl, sym, ap}
-use mathlib.Core.Bool.{Bool, true, false, ◌&&◌, and_assoc, and-eq-true_iff, false≢true}
+use mathlib.Core.Bool.{Bool, true, false, ◌&&◌, and-eq-true_iff, false≢true}
 use mathlib.Core.List.{List, [], ◌∷◌}
-use Prim.Native.Nat.{ℕ, suc, ◌+◌, ◌<◌}
-use native.Mathlib.Numerals.{add-one}
+use Prim.Native.Nat.{ℕ}
 use lib.Dec.{eqb}
-use lib.ListN.{length, get_or, drop}
-use lib.Seq.{drop-cons, drop-length}
+use lib.ListN.{length}
+use lib.Pointwise.{pointwise}
 use borrow.Author.Tests.{eqb-true, eq-eqb}
 use Rattle.field.specs.Octets.{bytes_equal}
 
@@ -47,17 +46,11 @@ bytes_equal_sym a b = go (bytes_equal a b) (bytes_equal b a) (λ h. equal_bytes 
 pub bytes_equal_length : (a b : List ℕ) → (length a ≡ length b → ⊥) → bytes_equal a b ≡ false
 bytes_equal_length a b h = bytes_equal_false a b (λ e. h (ap length e))
 
--- ---- a comparison byte by byte
+-- ---- the library's comparison
 
-pub equal_step : (t : Bool) (a b : List ℕ) (k : ℕ) → k < length a → k < length b
-    → (t && bytes_equal (drop k a) (drop k b)) ≡ (t && eqb (get_or a k 0) (get_or b k 0) && bytes_equal (drop (k + 1) a) (drop (k + 1) b))
+pub pointwise_bytes : (a b : List ℕ) → pointwise eqb a b ≡ bytes_equal a b
 unfolding bytes_equal
-equal_step t a b k h g =
-    rw (drop-cons a k 0 h, drop-cons b k 0 g, add-one) (sym (and_assoc t (eqb (get_or a k 0) (get_or b k 0)) (bytes_equal (drop (suc k) a) (drop (suc k) b))))
-
-pub equal_end : (a b : List ℕ) (k : ℕ) → k ≡ length a → k ≡ length b → bytes_equal (drop k a) (drop k b) ≡ true
-unfolding bytes_equal
-equal_end a b k h g =
-    let da : drop k a ≡ [] = rw h (drop-length a) in
-    let db : drop k b ≡ [] = rw g (drop-length b) in
-    rw (da, db)
+pointwise_bytes [] [] = refl
+pointwise_bytes [] (y ∷ ys) = refl
+pointwise_bytes (x ∷ xs) [] = refl
+pointwise_bytes (x ∷ xs) (y ∷ ys) = ap (λ (t : Bool). eqb x y && t) (pointwise_bytes xs ys)

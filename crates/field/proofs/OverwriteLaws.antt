@@ -7,7 +7,7 @@ use native.Mathlib.Nat.{add-zero, add-suc, suc-add}
 use native.Mathlib.Numerals.{add-one}
 use native.Mathlib.Omega.{arith}
 use lib.ListN.{length, take, drop, set, get_or, length-append, length-set, length-take, length-drop, take-append-drop}
-use lib.Seq.{take-suc, take-set-le, drop-set-add, drop-set-lt, take-suc-set, set-append_left, length-take-le, get_or-set_same, get_or-set_other}
+use lib.Seq.{take-suc, take-set-le, drop-set-add, drop-set-lt, take-suc-set, set-append_left, drop-drop, length-take-le, get_or-set_same, get_or-set_other}
 use Rattle.field.specs.Octets.{overwrite_at}
 
 pub length_overwrite : (xs : List ℕ) (at : ℕ) (ys : List ℕ) → length (overwrite_at xs at ys) ≡ length xs
@@ -85,6 +85,13 @@ pub overwrite_part : (xs : List ℕ) (a k at : ℕ) (ys : List ℕ) → at + len
 overwrite_part xs a k at ys h g =
     let f : at + length ys ≤ length (take k (drop a xs)) = simp (length-take, length-drop) (omega arith) in
     rw (overwrite_left (take k (drop a xs)) (drop k (drop a xs)) at ys f, take-append-drop k (drop a xs)) (overwrite_rest xs a at ys (omega arith))
+
+-- the left side is what `&mut xs[a..b]` leaves, once ys was copied into it
+pub overwrite_mid : (xs ys : List ℕ) (a k : ℕ) → k ≡ length ys → a + length ys ≤ length xs
+    → take a xs ++ (ys ++ drop k (drop a xs)) ≡ overwrite_at xs a ys
+overwrite_mid xs ys a k e h =
+    let d : drop k (drop a xs) ≡ drop (a + length ys) xs = rw e (drop-drop (length ys) a xs ∙ ap (λ (n : ℕ). drop n xs) (omega arith)) in
+    rw d (sym (overwrite_eq xs a ys h))
 
 -- ---- stores one behind the other
 

@@ -1,5 +1,6 @@
 pub mod Choice
 pub mod Answer
+pub mod Refusal
 pub mod Octets
 pub mod Field
 pub mod Place

@@ -1,12 +1,12 @@
-use mathlib.Core.Path.{refl}
-use native.Mathlib.Omega.{arith}
-use lib.ListN.{length-set}
+-- `put_u16` stores both bytes: the higher one is below 256.
+use Rattle.std.proofs.Common.{◌/◌, ◌%◌, ◌≡◌, refl, arith}
+use Rattle.std.proofs.Math.Nat.{mod-eq_of_lt}
 use Rattle.field.specs.Octets.{encode16, overwrite_at}
 use Rattle.field.proofs.put_u16.Goals as goal
 
-pub bounds-out-at-2 : goal.bounds-out-at-2
-bounds-out-at-2 c = simp length-set (omega arith)
-
 pub returns : goal.returns
 unfolding overwrite_at encode16
-returns c = refl
+returns c =
+    let x = c.args.x in
+    let high : x / 256 % 256 ≡ x / 256 = mod-eq_of_lt (omega (arith, c.ranges.x.fits)) in
+    rw (c.to_be_bytes.ensures, high) refl

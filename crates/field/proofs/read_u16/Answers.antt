@@ -1,19 +1,18 @@
--- `read_u16` answers `number_at`: both tests of the length come to one, at + 2 ≤ length, by omega.
-use Prim.Native.Nat.{◌+◌}
-use native.Mathlib.Omega.{arith}
-use lib.ListN.{length}
+use Rattle.std.proofs.Common.{◌+◌, length, arith}
 use borrow.Author.Tests.{le-leb, lt-leb}
 use Rattle.field.specs.Choice.{pick}
 use Rattle.field.specs.Field.{number_at}
+use Rattle.field.proofs.read_u16.Goals.{then-s-lt-NUMBER_SIZE-via-then-s-lt-NUMBER_SIZE, then-s-lt-NUMBER_SIZE-via-else-s-lt-NUMBER_SIZE+then-s-at}
 use Rattle.field.proofs.read_u16.Goals as goal
 
 pub returns-then-s-lt-NUMBER_SIZE : goal.returns-then-s-lt-NUMBER_SIZE
 unfolding number_at pick
-returns-then-s-lt-NUMBER_SIZE c = let a = c.args in rw (lt-leb (a.at + 2) (length a.s.now) (omega arith))
-
-pub returns-then-s-at : goal.returns-then-s-at
-unfolding number_at pick
-returns-then-s-at c = let a = c.args in rw (lt-leb (a.at + 2) (length a.s.now) (omega arith))
+returns-then-s-lt-NUMBER_SIZE c =
+    let a = c.args in
+    elim c.then-s-lt-NUMBER_SIZE.branch [
+      | then-s-lt-NUMBER_SIZE-via-then-s-lt-NUMBER_SIZE w ↦ rw (lt-leb (a.at + 2) (length a.s.now) (omega (arith, w.if-s-lt-NUMBER_SIZE.true)), c.new.ensures)
+      | then-s-lt-NUMBER_SIZE-via-else-s-lt-NUMBER_SIZE+then-s-at w ↦ rw (lt-leb (a.at + 2) (length a.s.now) (omega (arith, w.if-s-lt-NUMBER_SIZE.false, w.if-s-at.true)), c.new.ensures)
+    ]
 
 pub returns : goal.returns
 unfolding number_at pick

@@ -3,4 +3,4 @@ use Rattle.field.proofs.OctetsLaws.{decode_at}
 use Rattle.field.proofs.u16_at.Goals as goal
 
 pub returns : goal.returns
-returns c = let a = c.args in rw (decode_at a.s.now a.at, c.wide-high.ensures.0, c.wide-low.ensures.0)
+returns c = rw (decode_at c.args.s.now c.args.at) c.from_be_bytes.ensures
