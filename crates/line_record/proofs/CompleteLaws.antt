@@ -10,9 +10,8 @@ use lib.ListN.{length, get_or}
 use borrow.Author.Tests.{leb-false}
 use Rattle.field.specs.Answer.{done, ignored as ignoredNumber, incomplete, connection_too_high, wrong_state, unknown_kind, unknown_id, not_utf8, too_long, table_full, output_too_short, name_taken, unsound}
 use Rattle.field.specs.Choice.{pick}
-use Rattle.field.specs.Field.{fault_at, and_then}
+use Rattle.field.specs.Field.{fault_at, and_then, Parsed}
 use Rattle.field.specs.declared.Fault.{Fault}
-use Rattle.field.specs.declared.Parsed.{Parsed}
 use Rattle.field.proofs.ChoiceLaws.{by_test}
 use Rattle.value.specs.Value.{IsValue}
 use Rattle.value.proofs.ValueLaws.{lone_taken}

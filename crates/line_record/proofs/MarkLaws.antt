@@ -1,4 +1,5 @@
 -- Whose mark a call changes: that of no other connection.
+use Rattle.std.specs.Prelude.{Err, Ok}
 use mathlib.Core.Path.{◌≡◌, refl, ◌∙◌}
 use mathlib.Core.Logic.{◌≢◌}
 use mathlib.Core.Bool.{Bool}
@@ -7,10 +8,8 @@ use Prim.Native.Nat.{ℕ, zero, suc}
 use lib.ListN.{length, get_or, drop}
 use lib.Seq.{get_or-set_other}
 use Rattle.field.specs.Choice.{pick}
-use Rattle.field.specs.Field.{and_then}
+use Rattle.field.specs.Field.{and_then, Parsed}
 use Rattle.field.specs.declared.Fault.{Fault}
-use Rattle.field.specs.declared.Parsed.{Parsed}
-use Rattle.field.specs.declared.Parsed.TheVariants.{Refused, Taken}
 use Rattle.field.proofs.ChoiceLaws.{by_test}
 use Rattle.value.specs.Value.{parse_lone}
 use Rattle.message.specs.Layout.{Entry}
@@ -77,17 +76,17 @@ module _ (c limit : ℕ) (es : List Entry) where
     where
       go : (p q : Parsed) (held full : Bool) (e : Entry) (a b : Fault)
           → Own c (and_then refuse p (λ _. and_then refuse q (λ _. pick held (refuse a) (pick full (store_new e 0) (refuse b)))))
-      go (Refused fault) q held full e a b = refused
-      go (Taken n) (Refused fault) held full e a b = refused
-      go (Taken n) (Taken k) held full e a b = by_test (Own c) _ _ _ (λ _. refused) (λ _. by_test (Own c) _ _ _ (λ _. new) (λ _. refused))
+      go (Err fault) q held full e a b = refused
+      go (Ok n) (Err fault) held full e a b = refused
+      go (Ok n) (Ok k) held full e a b = by_test (Own c) _ _ _ (λ _. refused) (λ _. by_test (Own c) _ _ _ (λ _. new) (λ _. refused))
 
   write_own : (id : ℕ) (value : List ℕ) → Own c (judge_write es id value)
   unfolding judge_write
   write_own id value = by_test (Own c) _ _ _ (λ _. go (parse_lone (get_or es id default_entry).type value) _ _ _) (λ _. refused)
     where
       go : (q : Parsed) (equal : Bool) (number : ℕ) (to : Recipients) → Own c (and_then refuse q (λ _. pick equal (ignore 0) (store_update id number value 0 to)))
-      go (Refused fault) equal number to = refused
-      go (Taken n) equal number to = by_test (Own c) _ _ _ (λ _. ignored) (λ _. update)
+      go (Err fault) equal number to = refused
+      go (Ok n) equal number to = by_test (Own c) _ _ _ (λ _. ignored) (λ _. update)
 
   judge_own : (marks : List ℕ) (call : Call) → CallOf c call → Own c (judge limit es marks call)
   unfolding judge

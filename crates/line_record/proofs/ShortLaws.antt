@@ -1,4 +1,5 @@
 -- Bytes whose reading ends with 1 are few: an assignment or an update of more is read whole, or refused by another number.
+use Rattle.std.specs.Prelude.{Err, Ok}
 use mathlib.Core.Path.{◌≡◌}
 use mathlib.Core.Bool.{Bool, true, false}
 use mathlib.Core.List.{List}
@@ -9,11 +10,9 @@ use lib.ListN.{length, get_or, drop, length-drop}
 use borrow.Author.Tests.{leb-true, leb-false}
 use Rattle.field.specs.Answer.{incomplete, wrong_id, unknown_id, unknown_type, bad_boolean, not_utf8, too_long}
 use Rattle.field.specs.Choice.{pick}
-use Rattle.field.specs.Field.{fault_at, and_then, moved_by}
+use Rattle.field.specs.Field.{fault_at, and_then, moved_by, Parsed}
 use Rattle.field.specs.Octets.{decode16}
 use Rattle.field.specs.declared.Fault.{Fault}
-use Rattle.field.specs.declared.Parsed.{Parsed}
-use Rattle.field.specs.declared.Parsed.TheVariants.{Refused, Taken}
 use Rattle.field.proofs.ChoiceLaws.{by_test}
 use Rattle.text.specs.Text.{prefix_size, parse_text}
 use Rattle.value.specs.Value.{max_value_size, boolean_size, double_size, count_size, array_of, boolean, double, parse_boolean, parse_double, parse_element, count_fits, elements, parse_array, parse_value}
@@ -33,15 +32,15 @@ not_incomplete number h e = absurd (omega arith)
 
 -- with 1 the bytes, and those of the array before them, are one more than the longest value at most; what is taken leaves Q
 data Short (Q : ℕ → Type 0) (size : ℕ) (s : List ℕ) : Parsed → Type 0 where
-  refused : {fault : Fault} → (fault.number ≡ incomplete → size + length s ≤ max_value_size + 1) → Short Q size s (Refused fault)
-  taken : {n : ℕ} → Q (size + n) → Short Q size s (Taken n)
+  refused : {fault : Fault} → (fault.number ≡ incomplete → size + length s ≤ max_value_size + 1) → Short Q size s (Err fault)
+  taken : {n : ℕ} → Q (size + n) → Short Q size s (Ok n)
 
 module _ (Q : ℕ → Type 0) (size : ℕ) (s : List ℕ) where
-  other : (number place : ℕ) → incomplete < number → Short Q size s (Refused (fault_at number place))
+  other : (number place : ℕ) → incomplete < number → Short Q size s (Err (fault_at number place))
   other number place h = refused (not_incomplete number h)
 
   -- the first n bytes are not there
-  cut : (n place : ℕ) → size + n ≤ max_value_size + 2 → leb n (length s) ≡ false → Short Q size s (Refused (fault_at incomplete place))
+  cut : (n place : ℕ) → size + n ≤ max_value_size + 2 → leb n (length s) ≡ false → Short Q size s (Err (fault_at incomplete place))
   cut n place h l = refused (λ _. omega (arith, leb-false n (length s) l))
 
   boolean_short : size + boolean_size ≤ max_value_size → Q (size + boolean_size) → Short Q size s (parse_boolean s)
@@ -74,13 +73,13 @@ elements_short Q element h zero size s q = taken tt
 elements_short Q element h (suc count) size s q = go (elements_short Q element h count) (element size s) (h count size s q)
   where
     go : ((size : ℕ) (s : List ℕ) → Q count size → Short Any size s (elements element count size s)) → (r : Parsed) → Short (Q count) size s r
-        → Short Any size s (and_then Refused (moved_by size r) (λ n. elements element count (size + n) (drop n s)))
-    go ih (Refused fault) (refused f) = refused f
-    go ih (Taken n) (taken q') = back (elements element count (size + n) (drop n s)) (ih (size + n) (drop n s) q')
+        → Short Any size s (and_then Err (moved_by size r) (λ n. elements element count (size + n) (drop n s)))
+    go ih (Err fault) (refused f) = refused f
+    go ih (Ok n) (taken q') = back (elements element count (size + n) (drop n s)) (ih (size + n) (drop n s) q')
       where
         back : (r : Parsed) → Short Any (size + n) (drop n s) r → Short Any size s r
-        back (Refused fault) (refused f) = refused (λ (e : fault.number ≡ incomplete). omega (arith, f e, length-drop n s))
-        back (Taken k) f = taken tt
+        back (Err fault) (refused f) = refused (λ (e : fault.number ≡ incomplete). omega (arith, f e, length-drop n s))
+        back (Ok k) f = taken tt
 
 -- an array of Booleans, of Doubles, of Strings
 kinds_short : (a b : Bool) (count : ℕ) (s : List ℕ) → pick a (leb (count_size + count) max_value_size) (pick b (leb (count_size + double_size * count) max_value_size) true) ≡ true
@@ -111,8 +110,8 @@ array_short element s =
     (cut Any 0 s count_size 0 (omega arith))
   where
     back : count_size ≤ length s → (r : Parsed) → Short Any count_size (drop count_size s) r → Short Any 0 s r
-    back l (Refused fault) (refused f) = refused (λ (e : fault.number ≡ incomplete). omega (arith, f e, length-drop count_size s))
-    back l (Taken k) f = taken tt
+    back l (Err fault) (refused f) = refused (λ (e : fault.number ≡ incomplete). omega (arith, f e, length-drop count_size s))
+    back l (Ok k) f = taken tt
 
 AllShort : (List ℕ → Parsed) → Type 0
 AllShort read = (s : List ℕ) → Short Any 0 s (read s)
@@ -156,8 +155,8 @@ after_name_short allowed at m h =
 
     go : (r : Parsed) → Short Any 0 (drop (at + value_behind_name) m) r
         → P (and_then A.Refused (moved_by (at + value_behind_name) r) (λ v. A.Assignment (get_or m at 0) (decode16 (drop (at + id_behind_name) m)) (decode16 (drop (at + number_behind_name) m)) (at - assignment_name_start) v))
-    go (Refused fault) (Short.refused f) = AssignmentShort.refused (λ (e : fault.number ≡ incomplete). omega (arith, f e, length-drop (at + value_behind_name) m))
-    go (Taken n) f = AssignmentShort.taken
+    go (Err fault) (Short.refused f) = AssignmentShort.refused (λ (e : fault.number ≡ incomplete). omega (arith, f e, length-drop (at + value_behind_name) m))
+    go (Ok n) f = AssignmentShort.taken
 
 pub assignment_short : (allowed : ℕ → Bool) (m : List ℕ) → AssignmentShort m (parse_assignment allowed m)
 unfolding parse_assignment parse_text_at
@@ -165,8 +164,8 @@ assignment_short allowed m = go _ (text_short (λ n. n ≤ prefix_size + max_nam
   where
     go : (r : Parsed) → Short (λ n. n ≤ prefix_size + max_name_length) 0 (drop kind_size m) r
         → AssignmentShort m (and_then A.Refused (moved_by kind_size r) (λ size. parse_after_name allowed (kind_size + size) m))
-    go (Refused fault) (Short.refused f) = AssignmentShort.refused (λ (e : fault.number ≡ incomplete). omega (arith, f e, length-drop kind_size m))
-    go (Taken n) (Short.taken h) = after_name_short allowed (kind_size + n) m (omega arith)
+    go (Err fault) (Short.refused f) = AssignmentShort.refused (λ (e : fault.number ≡ incomplete). omega (arith, f e, length-drop kind_size m))
+    go (Ok n) (Short.taken h) = after_name_short allowed (kind_size + n) m (omega arith)
 
 pub update_short : (held : ℕ → Bool) (type_of : ℕ → ℕ) (m : List ℕ) → UpdateShort m (parse_update held type_of m)
 unfolding parse_update parse_behind_update_id parse_value_at
@@ -184,5 +183,5 @@ update_short held type_of m =
 
     go : (r : Parsed) → Short Any 0 (drop update_value_start m) r
         → P (and_then U.Refused (moved_by update_value_start r) (λ v. U.Update (decode16 (drop kind_size m)) (decode16 (drop update_number_start m)) v))
-    go (Refused fault) (Short.refused f) = UpdateShort.refused (λ (e : fault.number ≡ incomplete). omega (arith, f e, length-drop update_value_start m))
-    go (Taken n) f = UpdateShort.taken
+    go (Err fault) (Short.refused f) = UpdateShort.refused (λ (e : fault.number ≡ incomplete). omega (arith, f e, length-drop update_value_start m))
+    go (Ok n) f = UpdateShort.taken

@@ -1,4 +1,5 @@
 -- Laws of the call that loads: what it answers and leaves, by what was found.
+use Rattle.std.specs.Prelude.{Err, Ok}
 use mathlib.Core.Path.{◌≡◌, sym, ap, ◌∙◌}
 use mathlib.Core.Bool.{true, false}
 use mathlib.Core.List.{List}
@@ -7,11 +8,9 @@ use native.Mathlib.Omega.{arith}
 use lib.ListN.{length}
 use Rattle.field.specs.Answer.{wrong_state, unsound}
 use Rattle.field.specs.Choice.{pick}
-use Rattle.field.specs.Field.{fault_at, fault_of}
+use Rattle.field.specs.Field.{fault_at, fault_of, Parsed}
 use Rattle.field.specs.Place.{reported_place}
 use Rattle.field.specs.declared.Fault.{Fault}
-use Rattle.field.specs.declared.Parsed.{Parsed}
-use Rattle.field.specs.declared.Parsed.TheVariants.{Refused, Taken}
 use Rattle.answer.specs.Answers.{bare_answer, refused_answer, done_answer}
 use Rattle.table.specs.Table.{TableMemory, emptied, tabulate}
 use Rattle.soundness.specs.Sound.{sound_table, sound_marks}
@@ -21,10 +20,10 @@ use Rattle.load.specs.Records.{saved_entry, outcome}
 use Rattle.load.proofs.RecordsLaws.{form_read}
 
 is_taken : Parsed → ℕ
-is_taken (Refused fault) = 0
-is_taken (Taken n) = 1
+is_taken (Err fault) = 0
+is_taken (Ok n) = 1
 
-read_refused : (m : TableMemory) (taken : ℕ) (p : Parsed) (fault : Fault) (r : Reading) → p ≡ outcome r → p ≡ Refused fault → load_read m taken r ≡ load_result (refused_answer (fault_of p)) m
+read_refused : (m : TableMemory) (taken : ℕ) (p : Parsed) (fault : Fault) (r : Reading) → p ≡ outcome r → p ≡ Err fault → load_read m taken r ≡ load_result (refused_answer (fault_of p)) m
 unfolding is_taken
 read_refused m taken p fault (refused f) e q = ap (λ (x : Parsed). load_result (refused_answer (fault_of x)) m) (sym e)
 read_refused m taken p fault (read es) e q = absurd (omega (arith, ap is_taken e, ap is_taken q))
@@ -45,10 +44,10 @@ module _ (limit : ℕ) (m : TableMemory) (marks s : List ℕ) where
       load_connected h = rw (sound, marked, h)
 
       module _ (closed : all_closed marks ≡ true) (p : Parsed) (judged : p ≡ outcome (read_saved limit s)) where
-        pub load_refused : (fault : Fault) → p ≡ Refused fault → load_result (refused_answer (fault_of p)) m ≡ load limit m marks s
+        pub load_refused : (fault : Fault) → p ≡ Err fault → load_result (refused_answer (fault_of p)) m ≡ load limit m marks s
         unfolding load pick
         load_refused fault e = rw (sound, marked, closed, read_refused m (length s) p fault (read_saved limit s) judged e)
 
-        pub load_stored : (n : ℕ) → p ≡ Taken n → load_result (done_answer 0 (length s) 0) (store_all (emptied m) (tabulate n (saved_entry s))) ≡ load limit m marks s
+        pub load_stored : (n : ℕ) → p ≡ Ok n → load_result (done_answer 0 (length s) 0) (store_all (emptied m) (tabulate n (saved_entry s))) ≡ load limit m marks s
         unfolding load pick
         load_stored n e = rw (sound, marked, closed, (form_read limit s n (sym judged ∙ e)).0)

@@ -1,4 +1,5 @@
 -- Laws of the records of a saved form, by their places.
+use Rattle.std.specs.Prelude.{Err, Ok}
 use mathlib.Core.Path.{◌≡◌, refl, sym, ap, ◌∙◌}
 use mathlib.Core.Bool.{true, false}
 use mathlib.Core.List.{List, [], ◌∷◌, ◌++◌}
@@ -13,10 +14,8 @@ use borrow.Author.Tests.{le-leb, lt-leb}
 use Rattle.field.specs.Answer.{too_long, name_taken}
 use Rattle.field.specs.Choice.{pick}
 use Rattle.field.specs.Octets.{decode16}
-use Rattle.field.specs.Field.{fault_at, fault_of, moved_by, and_then}
+use Rattle.field.specs.Field.{fault_at, fault_of, moved_by, and_then, Parsed}
 use Rattle.field.specs.declared.Fault.{Fault}
-use Rattle.field.specs.declared.Parsed.{Parsed}
-use Rattle.field.specs.declared.Parsed.TheVariants.{Refused, Taken}
 use Rattle.field.proofs.ChoiceLaws.{by_test}
 use Rattle.field.proofs.OctetsLaws.{rest_all}
 use Rattle.message.specs.Layout.{Entry, max_name_length}
@@ -71,32 +70,32 @@ rest_entry s i p e = ap record_entry (rest_all p s ∙ ap (λ (k : ℕ). drop k 
 
 -- ---- a record that was read
 
-taken_storable : (s : List ℕ) (n : ℕ) → parse_record s ≡ Taken n → Storable s × (n ≡ entry_record_size)
+taken_storable : (s : List ℕ) (n : ℕ) → parse_record s ≡ Ok n → Storable s × (n ≡ entry_record_size)
 taken_storable s n e = go n (rw e at (record_is s))
   where
-    go : (m : ℕ) → RecordIs s (Taken m) → Storable s × (m ≡ entry_record_size)
+    go : (m : ℕ) → RecordIs s (Ok m) → Storable s × (m ≡ entry_record_size)
     go m (RecordIs.taken f g) = (record { whole = g.whole; name_small = f.name_small; value_small = g.value_small }, refl)
 
 place_in_record : (s : List ℕ) → (fault_of (parse_record s)).place ≤ entry_record_size
 place_in_record s = go (parse_record s) (record_is s)
   where
     go : (r : Parsed) → RecordIs s r → (fault_of r).place ≤ entry_record_size
-    go (Refused fault) (RecordIs.refused h l) = l
-    go (Taken n) (RecordIs.taken f g) = omega arith
+    go (Err fault) (RecordIs.refused h l) = l
+    go (Ok n) (RecordIs.taken f g) = omega arith
 
 -- one record more
 module _ (es : List Entry) (p : ℕ) (s : List ℕ) where
-  records_stop : (k : ℕ) (fault : Fault) → 0 < k → parse_record s ≡ Refused fault → moved_by p (Refused fault) ≡ outcome (read_records k es p s)
+  records_stop : (k : ℕ) (fault : Fault) → 0 < k → parse_record s ≡ Err fault → moved_by p (Err fault) ≡ outcome (read_records k es p s)
   unfolding read_records
   records_stop zero fault h e = absurd (omega arith)
   records_stop (suc k) fault h e = rw e
 
-  records_held : (k n : ℕ) → 0 < k → parse_record s ≡ Taken n → name_held (record_entry s).name es ≡ true → Refused (fault_at name_taken p) ≡ outcome (read_records k es p s)
+  records_held : (k n : ℕ) → 0 < k → parse_record s ≡ Ok n → name_held (record_entry s).name es ≡ true → Err (fault_at name_taken p) ≡ outcome (read_records k es p s)
   unfolding read_records pick
   records_held zero n h e t = absurd (omega arith)
   records_held (suc k) n h e t = rw (e, t)
 
-  records_next : (k n : ℕ) → 0 < k → parse_record s ≡ Taken n → name_held (record_entry s).name es ≡ false
+  records_next : (k n : ℕ) → 0 < k → parse_record s ≡ Ok n → name_held (record_entry s).name es ≡ false
       → read_records k es p s ≡ read_records (k - 1) (es ++ (record_entry s ∷ [])) (p + n) (drop n s)
   unfolding read_records pick
   records_next zero n h e t = absurd (omega arith)
@@ -130,11 +129,11 @@ module _ {s : List ℕ} {count at i : ℕ} {one : Parsed} (t : Turn s count at i
   pub turn_place : (fault_of one).place ≤ entry_record_size
   turn_place = omega (arith, ap (λ (p : Parsed). (fault_of p).place) parsed, place_in_record (drop at s))
 
-  pub turn_stop : (fault : Fault) → one ≡ Refused fault → moved_by at one ≡ outcome (read_records count [] count_record_size (drop count_record_size s))
+  pub turn_stop : (fault : Fault) → one ≡ Err fault → moved_by at one ≡ outcome (read_records count [] count_record_size (drop count_record_size s))
   turn_stop fault e =
       ap (moved_by at) e ∙ records_stop (tabulate i (saved_entry s)) at (drop at s) (count - i) fault (omega (arith, t.below)) (parsed ∙ e) ∙ ap outcome t.left
 
-  module _ (n : ℕ) (e : one ≡ Taken n) where
+  module _ (n : ℕ) (e : one ≡ Ok n) where
     storable : Storable (drop (saved_size i) s) × (n ≡ entry_record_size)
     storable = rw t.here at (taken_storable (drop at s) n (parsed ∙ e))
 
@@ -151,7 +150,7 @@ module _ {s : List ℕ} {count at i : ℕ} {one : Parsed} (t : Turn s count at i
     turn_end = omega (arith, t.here, turn_size, record_there s (saved_size i) storable.0)
 
     pub turn_held : name_held (saved_entry s i).name (tabulate i (saved_entry s)) ≡ true
-        → Refused (fault_at name_taken at) ≡ outcome (read_records count [] count_record_size (drop count_record_size s))
+        → Err (fault_at name_taken at) ≡ outcome (read_records count [] count_record_size (drop count_record_size s))
     turn_held h = records_held (tabulate i (saved_entry s)) at (drop at s) (count - i) n (omega (arith, t.below)) (parsed ∙ e) (rw entry_here h) ∙ ap outcome t.left
 
     pub turn_next : name_held (saved_entry s i).name (tabulate i (saved_entry s)) ≡ false → Left s count (at + n) (i + 1)
@@ -168,18 +167,18 @@ module _ (s : List ℕ) (count at i : ℕ) (all : i ≡ count) (left : Left s co
   last : read_records 0 (tabulate i (saved_entry s)) at (drop at s) ≡ read_records count [] count_record_size (drop count_record_size s)
   last = let k : count - i ≡ 0 = omega arith in rw k at left
 
-  pub end_left : at < length s → Refused (fault_at too_long at) ≡ outcome (read_records count [] count_record_size (drop count_record_size s))
+  pub end_left : at < length s → Err (fault_at too_long at) ≡ outcome (read_records count [] count_record_size (drop count_record_size s))
   end_left h = stop (drop at s) (omega (arith, length-drop at s)) ∙ ap outcome last
     where
-      stop : (t : List ℕ) → 0 < length t → Refused (fault_at too_long at) ≡ outcome (read_records 0 (tabulate i (saved_entry s)) at t)
+      stop : (t : List ℕ) → 0 < length t → Err (fault_at too_long at) ≡ outcome (read_records 0 (tabulate i (saved_entry s)) at t)
       stop t h = unfold read_records in unfold pick in rw (lt-leb (length t) 0 h)
 
-  pub end_taken : length s ≤ at → Taken count ≡ outcome (read_records count [] count_record_size (drop count_record_size s))
+  pub end_taken : length s ≤ at → Ok count ≡ outcome (read_records count [] count_record_size (drop count_record_size s))
   end_taken h =
       let n : length (tabulate i (saved_entry s)) ≡ count = omega (arith, length_tabulate i (saved_entry s)) in
       rw n at (stop (drop at s) (omega (arith, length-drop at s)) ∙ ap outcome last)
     where
-      stop : (t : List ℕ) → length t ≤ 0 → Taken (length (tabulate i (saved_entry s))) ≡ outcome (read_records 0 (tabulate i (saved_entry s)) at t)
+      stop : (t : List ℕ) → length t ≤ 0 → Ok (length (tabulate i (saved_entry s))) ≡ outcome (read_records 0 (tabulate i (saved_entry s)) at t)
       stop t h = unfold read_records in unfold pick in rw (le-leb (length t) 0 h)
 
 -- ---- what is read, by places
@@ -193,7 +192,7 @@ unfolding read_records
 all_placed zero i at s here r = rw (add-zero i) (by_test (Placed s i) _ _ _ (λ _. Placed.placed refl r) (λ _. Placed.rejected))
 all_placed (suc k) i at s here r = go (parse_record (drop at s)) refl (λ n e q. all_placed k (i + 1) (at + n) s e q)
   where
-    next : (n : ℕ) → parse_record (drop at s) ≡ Taken n
+    next : (n : ℕ) → parse_record (drop at s) ≡ Ok n
         → ((e : at + n ≡ saved_size (i + 1)) → Records (i + 1) s → Placed s (i + 1 + k) (read_records k (tabulate (i + 1) (saved_entry s)) (at + n) (drop (at + n) s)))
         → Placed s (i + suc k) (read_records k (tabulate i (saved_entry s) ++ (record_entry (drop at s) ∷ [])) (at + n) (drop n (drop at s)))
     next n q ih =
@@ -208,29 +207,29 @@ all_placed (suc k) i at s here r = go (parse_record (drop at s)) refl (λ n e q.
         → ((n : ℕ) (e : at + n ≡ saved_size (i + 1)) → Records (i + 1) s → Placed s (i + 1 + k) (read_records k (tabulate (i + 1) (saved_entry s)) (at + n) (drop (at + n) s)))
         → Placed s (i + suc k) (and_then refused (moved_by at p) (λ n.
         pick (name_held (record_entry (drop at s)).name (tabulate i (saved_entry s))) (refused (fault_at name_taken at)) (read_records k (tabulate i (saved_entry s) ++ (record_entry (drop at s) ∷ [])) (at + n) (drop n (drop at s)))))
-    go (Refused fault) q ih = Placed.rejected
-    go (Taken n) q ih = by_test (Placed s (i + suc k)) _ _ _ (λ _. Placed.rejected) (λ _. next n q (ih n))
+    go (Err fault) q ih = Placed.rejected
+    go (Ok n) q ih = by_test (Placed s (i + suc k)) _ _ _ (λ _. Placed.rejected) (λ _. next n q (ih n))
 
 -- ---- the whole
 
 size_of : Parsed → ℕ
-size_of (Refused fault) = 0
-size_of (Taken n) = n + 1
+size_of (Err fault) = 0
+size_of (Ok n) = n + 1
 
-pub count_taken : (limit : ℕ) (s : List ℕ) (n : ℕ) → parse_count limit s ≡ Taken n → (n ≡ count_record_size) × (count_in s ≤ limit) × (count_record_size ≤ length s)
+pub count_taken : (limit : ℕ) (s : List ℕ) (n : ℕ) → parse_count limit s ≡ Ok n → (n ≡ count_record_size) × (count_in s ≤ limit) × (count_record_size ≤ length s)
 unfolding parse_count
 count_taken limit s n e = opening_facts count_kind limit s n e
 
-pub form_stop : (limit : ℕ) (s : List ℕ) (fault : Fault) → parse_count limit s ≡ Refused fault → Refused fault ≡ outcome (read_saved limit s)
+pub form_stop : (limit : ℕ) (s : List ℕ) (fault : Fault) → parse_count limit s ≡ Err fault → Err fault ≡ outcome (read_saved limit s)
 unfolding read_saved
 form_stop limit s fault e = rw e
 
-pub form_counted : (limit : ℕ) (s : List ℕ) (n : ℕ) → parse_count limit s ≡ Taken n → read_saved limit s ≡ read_records (count_in s) [] count_record_size (drop count_record_size s)
+pub form_counted : (limit : ℕ) (s : List ℕ) (n : ℕ) → parse_count limit s ≡ Ok n → read_saved limit s ≡ read_records (count_in s) [] count_record_size (drop count_record_size s)
 unfolding read_saved
 form_counted limit s n e = rw (e, (count_taken limit s n e).0)
 
 -- so many entries, as the places of their records give them
-pub form_read : (limit : ℕ) (s : List ℕ) (n : ℕ) → outcome (read_saved limit s) ≡ Taken n → (read_saved limit s ≡ read (tabulate n (saved_entry s))) × Records n s × (n ≤ limit)
+pub form_read : (limit : ℕ) (s : List ℕ) (n : ℕ) → outcome (read_saved limit s) ≡ Ok n → (read_saved limit s ≡ read (tabulate n (saved_entry s))) × Records n s × (n ≤ limit)
 unfolding tabulate size_of
 form_read limit s n h =
     let c = counted (parse_count limit s) refl in
@@ -239,10 +238,10 @@ form_read limit s n h =
     (c.0 ∙ all.0, all.1, omega (arith, all.2, c.1))
   where
     counted : (p : Parsed) → parse_count limit s ≡ p → (read_saved limit s ≡ read_records (count_in s) [] count_record_size (drop count_record_size s)) × (count_in s ≤ limit)
-    counted (Refused fault) e = absurd (omega (arith, ap size_of (form_stop limit s fault e ∙ h)))
-    counted (Taken m) e = (form_counted limit s m e, (count_taken limit s m e).1)
+    counted (Err fault) e = absurd (omega (arith, ap size_of (form_stop limit s fault e ∙ h)))
+    counted (Ok m) e = (form_counted limit s m e, (count_taken limit s m e).1)
 
-    placed_read : (total : ℕ) (r : Reading) → Placed s total r → outcome r ≡ Taken n → (r ≡ read (tabulate n (saved_entry s))) × Records n s × (total ≡ n)
+    placed_read : (total : ℕ) (r : Reading) → Placed s total r → outcome r ≡ Ok n → (r ≡ read (tabulate n (saved_entry s))) × Records n s × (total ≡ n)
     placed_read total (refused fault) Placed.rejected q = absurd (omega (arith, ap size_of q))
     placed_read total (read es) (Placed.placed e r) q =
         let long : total ≡ n = omega (arith, ap size_of q, ap length e, length_tabulate total (saved_entry s)) in

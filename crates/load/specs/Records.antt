@@ -1,7 +1,6 @@
 -- The records of a saved form by their places, as inner functions work on them. No promise of a public call names them.
-use Rattle.std.specs.Prelude.{ℕ, ◌≤◌, ◌<◌, List, length, drop}
-use Rattle.field.specs.declared.Parsed.{Parsed}
-use Rattle.field.specs.declared.Parsed.TheVariants.{Refused, Taken}
+use Rattle.field.specs.Field.{Parsed}
+use Rattle.std.specs.Prelude.{ℕ, ◌≤◌, ◌<◌, List, length, drop, Err, Ok}
 use Rattle.value.specs.Value.{max_value_size}
 use Rattle.message.specs.Layout.{Entry, max_name_length}
 use Rattle.saved.specs.Form.{entry_record_size, saved_size}
@@ -23,5 +22,5 @@ Records count s = (i : ℕ) → i < count → Storable (drop (saved_size i) s)
 
 -- a reading's refusal, or how many entries were read
 abbrev pub outcome : Reading → Parsed
-outcome (refused fault) = Refused fault
-outcome (read es) = Taken (length es)
+outcome (refused fault) = Err fault
+outcome (read es) = Ok (length es)

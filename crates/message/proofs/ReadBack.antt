@@ -1,4 +1,5 @@
 -- Reading back what was written: a message's bytes, whatever stands behind them, give its fields again.
+use Rattle.std.specs.Prelude.{Ok}
 use mathlib.Core.Path.{◌≡◌, refl, sym, ap, ◌∙◌}
 use mathlib.Core.Bool.{Bool, true}
 use mathlib.Core.List.{List, [], ◌∷◌, ◌++◌, append_assoc}
@@ -11,7 +12,6 @@ use lib.Seq.{take-append_seam, drop-append_seam, drop-drop, get_or-drop}
 use borrow.Author.Tests.{le-leb}
 use Rattle.field.specs.Choice.{pick}
 use Rattle.field.specs.Octets.{decode16, encode16}
-use Rattle.field.specs.declared.Parsed.TheVariants.{Taken}
 use Rattle.field.proofs.OctetsLaws.{decode_encode}
 use Rattle.text.proofs.TextLaws.{text_back}
 use Rattle.value.specs.Value.{IsValue}
@@ -102,7 +102,7 @@ after_name_back allowed at m t id number value rest a w h e =
     )
 
 -- the name behind the kind
-parse_name_back : (id : ℕ) (e : Entry) (rest : List ℕ) → WellFormed e → parse_name (assignment_bytes id e ++ rest) ≡ Taken (2 + length e.name)
+parse_name_back : (id : ℕ) (e : Entry) (rest : List ℕ) → WellFormed e → parse_name (assignment_bytes id e ++ rest) ≡ Ok (2 + length e.name)
 unfolding parse_text_at
 parse_name_back id e rest w =
     rw (behind_kind_lem id e rest, text_back 66 e.name (after_name e.type id e.number (e.value ++ rest)) (omega (arith, w.name_fits)) w.name_text)

@@ -1,4 +1,5 @@
 -- Laws of the reader that its code cites.
+use Rattle.std.specs.Prelude.{Err, Ok}
 use mathlib.Core.Path.{◌≡◌}
 use mathlib.Core.Bool.{Bool, true, false}
 use mathlib.Core.List.{List}
@@ -9,9 +10,7 @@ use borrow.Author.Tests.{le-leb, lt-leb}
 use Rattle.field.specs.Answer.{incomplete, wrong_id, unknown_id}
 use Rattle.field.specs.Choice.{pick, demand}
 use Rattle.field.specs.Octets.{decode16}
-use Rattle.field.specs.Field.{fault_at, moved_by}
-use Rattle.field.specs.declared.Parsed.{Parsed}
-use Rattle.field.specs.declared.Parsed.TheVariants.{Refused, Taken}
+use Rattle.field.specs.Field.{fault_at, moved_by, Parsed}
 use Rattle.text.specs.Text.{parse_text}
 use Rattle.text.proofs.TextLaws.{TextIs, text_is}
 use Rattle.value.specs.Value.{known_type}
@@ -21,13 +20,13 @@ use Rattle.message.specs.declared.AssignmentRead.TheVariants as A
 use Rattle.message.specs.declared.UpdateRead.TheVariants as U
 
 -- a name that was read has its prefix, and its bytes are there
-pub name_taken_lem : (m : List ℕ) (n : ℕ) → parse_name m ≡ Taken n → (2 ≤ n) × (1 + n ≤ length m)
+pub name_taken_lem : (m : List ℕ) (n : ℕ) → parse_name m ≡ Ok n → (2 ≤ n) × (1 + n ≤ length m)
 unfolding parse_text_at
 name_taken_lem m n e = go (parse_text 66 0 (drop 1 m)) (text_is 66 0 (drop 1 m)) e
   where
-    go : (r : Parsed) → TextIs 66 0 (drop 1 m) r → moved_by 1 r ≡ Taken n → (2 ≤ n) × (1 + n ≤ length m)
-    go (Refused fault) t q = let z : ◌≡◌ {A = ℕ} 0 1 = cc in absurd (omega arith)
-    go (Taken k) (TextIs.taken a b c u f) q = let k-is : k ≡ n = cc in (omega arith, omega (arith, length-drop 1 m))
+    go : (r : Parsed) → TextIs 66 0 (drop 1 m) r → moved_by 1 r ≡ Ok n → (2 ≤ n) × (1 + n ≤ length m)
+    go (Err fault) t q = let z : ◌≡◌ {A = ℕ} 0 1 = cc in absurd (omega arith)
+    go (Ok k) (TextIs.taken a b c u f) q = let k-is : k ≡ n = cc in (omega arith, omega (arith, length-drop 1 m))
 
 -- what is left to decide once an assignment's type and ID are there, and its type is known
 pub after_id : (allowed : ℕ → Bool) (at t id : ℕ) (m : List ℕ) → at + 3 ≤ length m → t ≡ get_or m at 0 → known_type t ≡ true → id ≡ decode16 (drop (at + 1) m)

@@ -1,4 +1,5 @@
 -- "A refusal (1 to 14)": the number of every refusal of a reader.
+use Rattle.std.specs.Prelude.{Err, Ok}
 use mathlib.Core.Bool.{Bool}
 use mathlib.Core.List.{List}
 use Prim.Native.Nat.{ℕ, zero, suc, ◌+◌, ◌-◌, ◌≤◌}
@@ -8,10 +9,8 @@ use lib.ListN.{length, get_or, drop}
 use Rattle.field.specs.Answer.{too_long, RefusalNumber}
 use Rattle.field.specs.Choice.{demand}
 use Rattle.field.specs.Octets.{decode16}
-use Rattle.field.specs.Field.{fault_at, and_then, moved_by}
+use Rattle.field.specs.Field.{fault_at, and_then, moved_by, Parsed}
 use Rattle.field.specs.declared.Fault.{Fault}
-use Rattle.field.specs.declared.Parsed.{Parsed}
-use Rattle.field.specs.declared.Parsed.TheVariants.{Refused, Taken}
 use Rattle.field.proofs.ChoiceLaws.{by_test}
 use Rattle.text.specs.Text.{parse_text}
 use Rattle.value.specs.Value.{max_value_size, parse_boolean, parse_double, parse_element, elements, parse_array, parse_value, parse_lone}
@@ -28,15 +27,15 @@ refusal_number number a b = record { above = a; below = b }
 -- ---- values and names
 
 pub data RefusedRightly : Parsed → Type 0 where
-  refused : {fault : Fault} → RefusalNumber fault.number → RefusedRightly (Refused fault)
-  taken : {n : ℕ} → RefusedRightly (Taken n)
+  refused : {fault : Fault} → RefusalNumber fault.number → RefusedRightly (Err fault)
+  taken : {n : ℕ} → RefusedRightly (Ok n)
 
-pub numbered : (number place : ℕ) → 1 ≤ number → number ≤ 14 → RefusedRightly (Refused (fault_at number place))
+pub numbered : (number place : ℕ) → 1 ≤ number → number ≤ 14 → RefusedRightly (Err (fault_at number place))
 numbered number place a b = refused (refusal_number number a b)
 
 pub moved_rightly : (at : ℕ) (r : Parsed) → RefusedRightly r → RefusedRightly (moved_by at r)
-moved_rightly at (Refused fault) (refused h) = refused h
-moved_rightly at (Taken n) f = taken
+moved_rightly at (Err fault) (refused h) = refused h
+moved_rightly at (Ok n) f = taken
 
 text_rightly : (maxSize sizeSoFar : ℕ) (s : List ℕ) → RefusedRightly (parse_text maxSize sizeSoFar s)
 unfolding parse_text
@@ -63,9 +62,9 @@ elements_rightly element h zero size s = taken
 elements_rightly element h (suc count) size s = go (elements_rightly element h count) (element size s) (h size s)
   where
     go : ((size : ℕ) (s : List ℕ) → RefusedRightly (elements element count size s)) → (r : Parsed) → RefusedRightly r
-        → RefusedRightly (and_then Refused (moved_by size r) (λ n. elements element count (size + n) (drop n s)))
-    go ih (Refused fault) (refused f) = refused f
-    go ih (Taken n) f = ih (size + n) (drop n s)
+        → RefusedRightly (and_then Err (moved_by size r) (λ n. elements element count (size + n) (drop n s)))
+    go ih (Err fault) (refused f) = refused f
+    go ih (Ok n) f = ih (size + n) (drop n s)
 
 array_rightly : (element : ℕ) → AllRightly (parse_array element)
 unfolding AllRightly parse_array
@@ -87,9 +86,9 @@ pub lone_rightly : (t : ℕ) (v : List ℕ) → RefusedRightly (parse_lone t v)
 unfolding parse_lone
 lone_rightly t v = go (parse_value t v) (value_rightly t v)
   where
-    go : (r : Parsed) → RefusedRightly r → RefusedRightly (and_then Refused r (λ n. demand (eqb n (length v)) (Refused (fault_at too_long n)) (Taken n)))
-    go (Refused fault) (refused f) = refused f
-    go (Taken n) f = by_test RefusedRightly _ _ _ (λ _. taken) (λ _. numbered 10 n (omega arith) (omega arith))
+    go : (r : Parsed) → RefusedRightly r → RefusedRightly (and_then Err r (λ n. demand (eqb n (length v)) (Err (fault_at too_long n)) (Ok n)))
+    go (Err fault) (refused f) = refused f
+    go (Ok n) f = by_test RefusedRightly _ _ _ (λ _. taken) (λ _. numbered 10 n (omega arith) (omega arith))
 
 -- ---- messages
 
@@ -120,16 +119,16 @@ after_name_rightly allowed at m =
     P = AssignmentRefused
 
     go : (r : Parsed) → RefusedRightly r → P (and_then A.Refused r (λ v. A.Assignment (get_or m at 0) (decode16 (drop (at + 1) m)) (decode16 (drop (at + 3) m)) (at - 3) v))
-    go (Refused fault) (RefusedRightly.refused f) = AssignmentRefused.refused f
-    go (Taken n) f = AssignmentRefused.taken
+    go (Err fault) (RefusedRightly.refused f) = AssignmentRefused.refused f
+    go (Ok n) f = AssignmentRefused.taken
 
 pub assignment_rightly : (allowed : ℕ → Bool) (m : List ℕ) → AssignmentRefused (parse_assignment allowed m)
 unfolding parse_assignment parse_text_at
 assignment_rightly allowed m = go _ (moved_rightly 1 _ (text_rightly 66 0 (drop 1 m)))
   where
     go : (r : Parsed) → RefusedRightly r → AssignmentRefused (and_then A.Refused r (λ size. parse_after_name allowed (1 + size) m))
-    go (Refused fault) (RefusedRightly.refused f) = AssignmentRefused.refused f
-    go (Taken n) f = after_name_rightly allowed (1 + n) m
+    go (Err fault) (RefusedRightly.refused f) = AssignmentRefused.refused f
+    go (Ok n) f = after_name_rightly allowed (1 + n) m
 
 pub update_rightly : (held : ℕ → Bool) (type_of : ℕ → ℕ) (m : List ℕ) → UpdateRefused (parse_update held type_of m)
 unfolding parse_behind_update_id parse_update parse_value_at
@@ -140,5 +139,5 @@ update_rightly held type_of m =
     (λ _. numbered_update 1 1 (omega arith) (omega arith))
   where
     go : (r : Parsed) → RefusedRightly r → UpdateRefused (and_then U.Refused r (λ v. U.Update (decode16 (drop 1 m)) (decode16 (drop 3 m)) v))
-    go (Refused fault) (RefusedRightly.refused f) = UpdateRefused.refused f
-    go (Taken n) f = UpdateRefused.taken
+    go (Err fault) (RefusedRightly.refused f) = UpdateRefused.refused f
+    go (Ok n) f = UpdateRefused.taken

@@ -1,4 +1,5 @@
 -- What is known of an assignment or an update that was read: its bytes are there, and its name and value obey the rules.
+use Rattle.std.specs.Prelude.{Err, Ok}
 use mathlib.Core.Path.{◌≡◌, refl}
 use mathlib.Core.Bool.{Bool, true}
 use mathlib.Core.List.{List}
@@ -8,10 +9,8 @@ use lib.ListN.{length, take, drop, get_or, length-take, length-drop}
 use lib.Seq.{drop-drop}
 use borrow.Author.Tests.{leb-true}
 use Rattle.field.specs.Octets.{decode16}
-use Rattle.field.specs.Field.{moved_by, and_then}
+use Rattle.field.specs.Field.{moved_by, and_then, Parsed}
 use Rattle.field.specs.declared.Fault.{Fault}
-use Rattle.field.specs.declared.Parsed.{Parsed}
-use Rattle.field.specs.declared.Parsed.TheVariants.{Refused, Taken}
 use Rattle.field.proofs.ChoiceLaws.{by_test}
 use Rattle.utf8.specs.Utf8.{is_utf8}
 use Rattle.text.specs.Text.{parse_text}
@@ -52,10 +51,10 @@ value_is allowed m n t id q name fields a there = go (parse_value t (drop (3 + n
   where
     go : (r : Parsed) → parse_value t (drop (3 + n + 5) m) ≡ r
         → AssignmentIs allowed m (and_then A.Refused (moved_by (3 + n + 5) r) (λ v. A.Assignment t id q n v))
-    go (Refused fault) e = refused
-    go (Taken v) e =
+    go (Err fault) e = refused
+    go (Ok v) e =
         let eight : 3 + n + 5 ≡ 8 + n = omega arith in
-        let f : parse_value t (drop (8 + n) m) ≡ Taken v = rw eight at e in
+        let f : parse_value t (drop (8 + n) m) ≡ Ok v = rw eight at e in
         let all_there : 8 + n + v ≤ length m = omega (arith, value_fits t (drop (8 + n) m) v f, length-drop (8 + n) m) in
         taken {t = t} a all_there (λ number.
         record {
@@ -84,8 +83,8 @@ unfolding parse_assignment parse_text_at
 assignment_is allowed m = go (parse_text 66 0 (drop 1 m)) (text_is 66 0 (drop 1 m))
   where
     go : (r : Parsed) → TextIs 66 0 (drop 1 m) r → AssignmentIs allowed m (and_then A.Refused (moved_by 1 r) (λ size. parse_after_name allowed (1 + size) m))
-    go (Refused fault) f = refused
-    go (Taken k) (TextIs.taken e l h u f) =
+    go (Err fault) f = refused
+    go (Ok k) (TextIs.taken e l h u f) =
         let n = decode16 (drop 1 m) in
         let place : 1 + k ≡ 3 + n = omega arith in
         let name : is_utf8 (take n (drop 3 m)) ≡ true = rw (drop-drop 2 1 m) at u in
@@ -117,8 +116,8 @@ update_is held type_of m =
 
     go : held (decode16 (drop 1 m)) ≡ true → 5 ≤ length m → (r : Parsed) → parse_value (type_of (decode16 (drop 1 m))) (drop 5 m) ≡ r
         → P (and_then U.Refused (moved_by 5 r) (λ v. U.Update (decode16 (drop 1 m)) (decode16 (drop 3 m)) v))
-    go h l (Refused fault) e = UpdateIs.refused
-    go h l (Taken v) e =
+    go h l (Err fault) e = UpdateIs.refused
+    go h l (Ok v) e =
         let all_there : 5 + v ≤ length m = omega (arith, value_fits (type_of (decode16 (drop 1 m))) (drop 5 m) v e, length-drop 5 m) in
         UpdateIs.taken h all_there (value_whole (type_of (decode16 (drop 1 m))) (drop 5 m) v e) refl refl
 

@@ -4,10 +4,9 @@ use Rattle.std.proofs.Math.Option.{Option, none, some}
 use Rattle.field.specs.Answer.{done, incomplete, unknown_kind, wrong_id, unknown_id, unknown_type, RefusalNumber}
 use Rattle.field.specs.Choice.{pick, demand}
 use Rattle.field.specs.Octets.{decode16}
-use Rattle.field.specs.Field.{fault_at, demand_bytes, and_then}
+use Rattle.field.specs.Field.{fault_at, demand_bytes, and_then, Parsed}
 use Rattle.field.specs.Place.{reported_place}
 use Rattle.field.specs.declared.Fault.{Fault}
-use Rattle.field.specs.declared.Parsed.{Parsed}
 use Rattle.text.specs.Text.{prefix_size}
 use Rattle.value.specs.Value.{known_type}
 use Rattle.reader.specs.Reader.{parse_text_at, parse_value_at}

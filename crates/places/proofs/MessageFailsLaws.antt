@@ -1,4 +1,5 @@
 -- What is true at the place that a message is refused with.
+use Rattle.std.specs.Prelude.{Err, Ok}
 use mathlib.Core.Path.{◌≡◌, refl, sym, ◌∙◌}
 use mathlib.Core.Bool.{Bool, true, false, false≢true}
 use mathlib.Core.Logic.{◌≢◌}
@@ -12,11 +13,9 @@ use borrow.Author.Tests.{leb-true, leb-false, le-leb, lt-leb, eqb-true, ne_eqb}
 use Rattle.field.specs.Answer.{unknown_type}
 use Rattle.field.specs.Choice.{pick}
 use Rattle.field.specs.Octets.{decode16}
-use Rattle.field.specs.Field.{fault_at, moved_by, and_then}
+use Rattle.field.specs.Field.{fault_at, moved_by, and_then, Parsed}
 use Rattle.field.specs.Place.{TellsPlace, Told}
 use Rattle.field.specs.declared.Fault.{Fault}
-use Rattle.field.specs.declared.Parsed.{Parsed}
-use Rattle.field.specs.declared.Parsed.TheVariants.{Refused, Taken}
 use Rattle.field.proofs.ChoiceLaws.{by_test}
 use Rattle.field.proofs.PlaceLaws.{told, untold, Refuses}
 use Rattle.utf8.specs.Utf8.{is_utf8}
@@ -63,8 +62,8 @@ module _ (allowed : ℕ → Bool) (m : List ℕ) where
     where
       go : (r : Parsed) → Refuses (ValueFailsAt (get_or m (type_start m) 0) (drop (value_start m) m)) r
           → P (and_then A.Refused (moved_by (value_start m) r) (λ v. A.Assignment (get_or m (type_start m) 0) id q (name_length_in m) v))
-      go (Refused fault) (Refuses.refused h) = AssignmentRefuses.refused (AssignmentFailsAt.value type ok (omega arith) h)
-      go (Taken v) h = AssignmentRefuses.taken
+      go (Err fault) (Refuses.refused h) = AssignmentRefuses.refused (AssignmentFailsAt.value type ok (omega arith) h)
+      go (Ok v) h = AssignmentRefuses.taken
 
   after_name_lem : NameStands m → P (parse_after_name allowed (type_start m) m)
   unfolding parse_after_name parse_behind_id
@@ -102,8 +101,8 @@ module _ (allowed : ℕ → Bool) (m : List ℕ) where
     where
       go : (r : Parsed) → TextIs 66 0 (drop 1 m) r → Refuses (TextFailsAt 66 0 (drop 1 m)) r
           → AssignmentRefuses allowed m (and_then A.Refused (moved_by 1 r) (λ size. parse_after_name allowed (1 + size) m))
-      go (Refused fault) f (Refuses.refused h) = AssignmentRefuses.refused (AssignmentFailsAt.name h)
-      go (Taken k) (TextIs.taken e l h u f) g =
+      go (Err fault) f (Refuses.refused h) = AssignmentRefuses.refused (AssignmentFailsAt.name h)
+      go (Ok k) (TextIs.taken e l h u f) g =
           let place : 1 + k ≡ type_start m = omega arith in
           let text : is_utf8 (take (name_length_in m) (drop 3 m)) ≡ true = rw (drop-drop 2 1 m) at u in
           rw place
@@ -144,9 +143,9 @@ update_refuses held type_of m =
 
     go : held (update_id_in m) ≡ true → 5 ≤ length m → known_type type ≡ true → (r : Parsed) → Refuses (ValueFailsAt type (drop 5 m)) r
         → P (and_then U.Refused (moved_by 5 r) (λ v. U.Update (update_id_in m) (decode16 (drop 3 m)) v))
-    go held-is l known (Refused fault) (Refuses.refused h) =
+    go held-is l known (Err fault) (Refuses.refused h) =
         UpdateRefuses.refused (value_of_known type (drop 5 m) fault.number fault.place known h) (UpdateFailsAt.value held-is known l h)
-    go held-is l known (Taken v) h = UpdateRefuses.taken
+    go held-is l known (Ok v) h = UpdateRefuses.taken
 
     by_type : held (update_id_in m) ≡ true → 5 ≤ length m → (known : Bool) → known_type type ≡ known
         → P (and_then U.Refused (moved_by 5 (parse_value type (drop 5 m))) (λ v. U.Update (update_id_in m) (decode16 (drop 3 m)) v))
@@ -162,7 +161,7 @@ update_fails held type_of m known fault e = go (rw e at (update_refuses held typ
 
 -- ---- the other way
 
-name_taken_lem : (m : List ℕ) → NameStands m → parse_text 66 0 (drop 1 m) ≡ Taken (2 + name_length_in m)
+name_taken_lem : (m : List ℕ) → NameStands m → parse_text 66 0 (drop 1 m) ≡ Ok (2 + name_length_in m)
 unfolding parse_text pick
 name_taken_lem m n =
     rw (

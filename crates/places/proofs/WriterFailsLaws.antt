@@ -1,13 +1,12 @@
 -- What is true at the place that a lent name, or the fields of a message to be written, are refused with.
+use Rattle.std.specs.Prelude.{Err, Ok}
 use mathlib.Core.List.{List}
 use Prim.Native.Nat.{ℕ}
 use native.Mathlib.Omega.{arith}
 use borrow.Author.Tests.{leb-true, leb-false, eqb-true}
-use Rattle.field.specs.Field.{fault_at, and_then}
+use Rattle.field.specs.Field.{fault_at, and_then, Parsed}
 use Rattle.field.specs.Place.{TellsPlace, Told}
 use Rattle.field.specs.declared.Fault.{Fault}
-use Rattle.field.specs.declared.Parsed.{Parsed}
-use Rattle.field.specs.declared.Parsed.TheVariants.{Refused, Taken}
 use Rattle.field.proofs.ChoiceLaws.{by_test}
 use Rattle.field.proofs.PlaceLaws.{told, untold, Refuses, refuses_with, refused_with_lem}
 use Rattle.value.specs.Value.{parse_lone}
@@ -46,9 +45,9 @@ module _ (name : List ℕ) (type : ℕ) (value : List ℕ) where
     where
       go : (p : Parsed) → NameIs name p → Refuses (NameFailsAt name) p → (q : Parsed) → Refuses (LoneFailsAt type value) q
           → P (and_then refuse p (λ _. and_then refuse q (λ _. next)))
-      go (Refused fault) n (Refuses.refused h) q r = f fault (EntryFailsAt.in_name h)
-      go (Taken k) (NameIs.taken a fits text) h (Refused fault) (Refuses.refused r) = f fault (EntryFailsAt.in_value (record { fits = fits; text = text }) r)
-      go (Taken k) n h (Taken v) r = g
+      go (Err fault) n (Refuses.refused h) q r = f fault (EntryFailsAt.in_name h)
+      go (Ok k) (NameIs.taken a fits text) h (Err fault) (Refuses.refused r) = f fault (EntryFailsAt.in_value (record { fits = fits; text = text }) r)
+      go (Ok k) n h (Ok v) r = g
 
 -- what is known of the answer, where it is a refusal of the value
 pub lone_then : (type : ℕ) (value : List ℕ) {X : Type 0} (P : X → Type 0) (refuse : Fault → X) (next : X)
@@ -57,8 +56,8 @@ pub lone_then : (type : ℕ) (value : List ℕ) {X : Type 0} (P : X → Type 0) 
 lone_then type value {X = X} P refuse next f g = go (parse_lone type value) (lone_refuses type value)
   where
     go : (q : Parsed) → Refuses (LoneFailsAt type value) q → P (and_then refuse q (λ _. next))
-    go (Refused fault) (Refuses.refused h) = f fault h
-    go (Taken v) h = g
+    go (Err fault) (Refuses.refused h) = f fault h
+    go (Ok v) h = g
 
 -- ---- the message writer
 

@@ -1,9 +1,8 @@
 -- "counted from the start of the .. name or value lent". Proved in proofs/WriterFailsLaws.antt.
-use Rattle.std.specs.Prelude.{ℕ, ◌≤◌, ◌<◌, true, false, List, ◌≡◌, length}
+use Rattle.std.specs.Prelude.{ℕ, ◌≤◌, ◌<◌, true, false, List, ◌≡◌, length, Err}
 use Rattle.field.specs.Answer.{not_utf8, too_long}
 use Rattle.field.specs.Place.{Told}
 use Rattle.field.specs.declared.Fault.{Fault}
-use Rattle.field.specs.declared.Parsed.TheVariants.{Refused}
 use Rattle.utf8.specs.Utf8.{is_utf8}
 use Rattle.value.specs.Fails.{LoneFailsAt}
 use Rattle.message.specs.Layout.{max_name_length, assignment_kind, update_kind}
@@ -15,7 +14,7 @@ pub data NameFailsAt (name : List ℕ) : (number place : ℕ) → Type 0 where
   not_text : length name ≤ max_name_length → is_utf8 name ≡ false → NameFailsAt name not_utf8 0
 
 abbrev pub NameFails : Type 0
-NameFails = (name : List ℕ) (fault : Fault) → check_name name ≡ Refused fault → NameFailsAt name fault.number fault.place
+NameFails = (name : List ℕ) (fault : Fault) → check_name name ≡ Err fault → NameFailsAt name fault.number fault.place
 
 -- a name that obeys the rules
 pub record RightName (name : List ℕ) : Type 0 where

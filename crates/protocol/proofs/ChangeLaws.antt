@@ -1,4 +1,5 @@
 -- Demand 2: a client's message changes a held entry only by an update with a strictly greater number; what is not greater is ignored. A local write leaves the value given.
+use Rattle.std.specs.Prelude.{Err, Ok}
 use mathlib.Core.Path.{◌≡◌, refl, sym, ap, ◌∙◌}
 use mathlib.Core.Logic.{◌≢◌}
 use mathlib.Core.Bool.{true, false, and-eq-true_iff}
@@ -10,9 +11,7 @@ use lib.ListN.{length, get_or, set, get_or-append}
 use lib.Seq.{get_or_at, get_or-set_same, get_or-set_other}
 use Rattle.field.specs.Answer.{RefusalNumber}
 use Rattle.field.specs.Choice.{pick}
-use Rattle.field.specs.Field.{and_then}
-use Rattle.field.specs.declared.Parsed.{Parsed}
-use Rattle.field.specs.declared.Parsed.TheVariants.{Refused, Taken}
+use Rattle.field.specs.Field.{and_then, Parsed}
 use Rattle.field.proofs.ChoiceLaws.{by_test}
 use Rattle.sequence.specs.SequenceNumber.{passed_by, next_number}
 use borrow.Author.Tests.{lt-ltb, ltb-true}
@@ -183,8 +182,8 @@ module _ (limit : ℕ) (mem : ServerMemory) (id : ℕ) (value out : List ℕ) wh
   value_leaves : sound_table limit mem.table ≡ true → id < length (entries_of mem.table) → (q : Parsed) → LoneIs there.type value q → RefusedRightly q
       → Leaves (and_then refuse q (λ _. pick (equal_values there.type there.value value) (ignore 0) (store_update id (next_number there.number) value 0 all_greeted)))
   unfolding execute
-  value_leaves s h (Refused fault) f (RefusedRightly.refused n) = refused_leaves fault.number n
-  value_leaves s h (Taken n) (LoneIs.taken b whole) f =
+  value_leaves s h (Err fault) f (RefusedRightly.refused n) = refused_leaves fault.number n
+  value_leaves s h (Ok n) (LoneIs.taken b whole) f =
       by_test Leaves _ _ _ (λ equal. λ _. ap (λ (e : Entry). e.value) (held mem.table id l) ∙ (equal_exactly there.type there.value value).equal_same equal)
       (λ _. by_test (LeavesValue id value) _ _ _ (λ _. λ _. ap (λ (e : Entry). e.value) (value_same mem.table id (next_number there.number) value l stored))
       (λ _. refused_leaves 12 (refusal_number 12 (omega arith) (omega arith))))

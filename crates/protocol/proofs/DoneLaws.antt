@@ -1,4 +1,5 @@
 -- What must be done is done, for every limit and in every sound memory: no refusal before the verdict, and then room.
+use Rattle.std.specs.Prelude.{Ok}
 use mathlib.Core.Path.{◌≡◌, refl, sym, ap, ◌∙◌}
 use mathlib.Core.Bool.{true}
 use mathlib.Core.List.{List, []}
@@ -9,7 +10,6 @@ use borrow.Author.Tests.{le-leb, lt-ltb, ne_eqb}
 use Rattle.field.specs.Choice.{pick}
 use Rattle.field.specs.Octets.{overwrite_at}
 use Rattle.field.proofs.ChoiceLaws.{pick_true}
-use Rattle.field.specs.declared.Parsed.TheVariants.{Taken}
 use Rattle.utf8.specs.Utf8.{is_utf8}
 use Rattle.sequence.specs.SequenceNumber.{next_number, passed_by}
 use Rattle.value.specs.Value.{IsValue}
@@ -101,7 +101,7 @@ leave_done limit mem s c b on out =
     ∙ rw (lt-ltb c 16 b, ne_eqb _ _ on) (answer_done mem out 0 [] _ _ (omega arith) ∙ rw (nobody_set mem.marks))
 
 -- a name that obeys the rules
-pub name_checked : (name : List ℕ) → length name ≤ 64 → is_utf8 name ≡ true → check_name name ≡ Taken (length name)
+pub name_checked : (name : List ℕ) → length name ≤ 64 → is_utf8 name ≡ true → check_name name ≡ Ok (length name)
 unfolding check_name pick
 name_checked name l u = rw (le-leb _ _ l, u)
 

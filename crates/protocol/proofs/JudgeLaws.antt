@@ -1,4 +1,5 @@
 -- What is known of a call's verdict: whom and what it concerns is as the rules have it.
+use Rattle.std.specs.Prelude.{Err, Ok}
 use mathlib.Core.Path.{◌≡◌, refl}
 use mathlib.Core.Bool.{Bool, false}
 use mathlib.Core.List.{List}
@@ -9,10 +10,8 @@ use lib.ListN.{length, get_or}
 use borrow.Author.Tests.{ltb-true, leb-true, eqb-true}
 use Rattle.field.specs.Answer.{RefusalNumber}
 use Rattle.field.specs.Choice.{pick}
-use Rattle.field.specs.Field.{fault_at, and_then}
+use Rattle.field.specs.Field.{fault_at, and_then, Parsed}
 use Rattle.field.specs.declared.Fault.{Fault}
-use Rattle.field.specs.declared.Parsed.{Parsed}
-use Rattle.field.specs.declared.Parsed.TheVariants.{Refused, Taken}
 use Rattle.field.proofs.ChoiceLaws.{by_test}
 use Rattle.value.specs.Value.{parse_lone, IsValue}
 use Rattle.value.proofs.ValueLaws.{LoneIs, lone_is}
@@ -112,9 +111,9 @@ module _ (limit : ℕ) (es : List Entry) (marks : List ℕ) where
 
       go : (p : Parsed) → NameIs name p → RefusedRightly p → (q : Parsed) → LoneIs type value q → RefusedRightly q
           → P (and_then refuse p (λ _. and_then refuse q (λ _. pick (name_held name es) (refuse_call 13) (pick (ltb (length es) limit) (store_new (new_entry name type value) 0) (refuse_call 11)))))
-      go (Refused fault) f (RefusedRightly.refused h) q g i = refused h
-      go (Taken n) f h (Refused fault) g (RefusedRightly.refused i) = refused i
-      go (Taken n) (NameIs.taken a fits text) h (Taken v) (LoneIs.taken b whole) i =
+      go (Err fault) f (RefusedRightly.refused h) q g i = refused h
+      go (Ok n) f h (Err fault) g (RefusedRightly.refused i) = refused i
+      go (Ok n) (NameIs.taken a fits text) h (Ok v) (LoneIs.taken b whole) i =
           by_test P _ _ _ (λ _. refusal (local_create name type value) 13 (omega arith) (omega arith)) (λ new.
           by_test P _ _ _ (λ l. created (record { name_fits = fits; name_text = text; value_whole = whole }) new (ltb-true _ _ l))
           (λ _. refusal (local_create name type value) 11 (omega arith) (omega arith)))
@@ -130,8 +129,8 @@ module _ (limit : ℕ) (es : List Entry) (marks : List ℕ) where
 
       go : id < length es → (q : Parsed) → LoneIs (get_or es id default_entry).type value q → RefusedRightly q → (equal : Bool) (number : ℕ)
           → P (and_then refuse q (λ _. pick equal (ignore 0) (store_update id number value 0 all_greeted)))
-      go l (Refused fault) g (RefusedRightly.refused h) equal number = refused h
-      go l (Taken v) (LoneIs.taken b whole) h equal number = by_test P _ _ _ (λ _. ignored) (λ _. updated l whole local_write_case)
+      go l (Err fault) g (RefusedRightly.refused h) equal number = refused h
+      go l (Ok v) (LoneIs.taken b whole) h equal number = by_test P _ _ _ (λ _. ignored) (λ _. updated l whole local_write_case)
 
   pub verdict_is : (call : Call) → VerdictIs limit es marks call (judge limit es marks call)
   unfolding judge

@@ -1,4 +1,5 @@
--- "Taken" is the length of the message that stands first, and "sent" that of the messages written.
+-- "Ok" is the length of the message that stands first, and "sent" that of the messages written.
+use Rattle.std.specs.Prelude.{Err, Ok}
 use mathlib.Core.Path.{◌≡◌, refl, sym, ap, subst, ◌∙◌}
 use mathlib.Core.Logic.{◌≢◌, ◌⊎◌, inl, inr}
 use mathlib.Core.Bool.{Bool, true, false, true≢false}
@@ -12,11 +13,9 @@ use lib.ListN.{length, drop, get_or}
 use borrow.Author.Tests.{leb-true, ltb-true, eqb-true, eqb-false}
 use Rattle.field.specs.Answer.{RefusalNumber}
 use Rattle.field.specs.Choice.{pick}
-use Rattle.field.specs.Field.{and_then}
+use Rattle.field.specs.Field.{and_then, Parsed}
 use Rattle.field.specs.Octets.{encode16, decode16, overwrite_at}
 use Rattle.field.specs.declared.Fault.{Fault}
-use Rattle.field.specs.declared.Parsed.{Parsed}
-use Rattle.field.specs.declared.Parsed.TheVariants.{Refused, Taken}
 use Rattle.field.proofs.ChoiceLaws.{by_test}
 use Rattle.field.proofs.OctetsLaws.{decode_encode}
 use Rattle.field.proofs.OverwriteLaws.{overwrite_eq}
@@ -242,9 +241,9 @@ module _ (limit : ℕ) (mem : ServerMemory) where
 
       go : (p : Parsed) → RefusedRightly p → (q : Parsed) → RefusedRightly q
           → P (and_then refuse p (λ _. and_then refuse q (λ _. pick (name_held name es) (refuse_call 13) (pick (ltb (length es) limit) (store_new (new_entry name type value) 0) (refuse_call 11)))))
-      go (Refused fault) (RefusedRightly.refused f) q g = refused f
-      go (Taken n) f (Refused fault) (RefusedRightly.refused g) = refused g
-      go (Taken n) f (Taken v) g =
+      go (Err fault) (RefusedRightly.refused f) q g = refused f
+      go (Ok n) f (Err fault) (RefusedRightly.refused g) = refused g
+      go (Ok n) f (Ok v) g =
           by_test P _ _ _ (λ _. refusal_acts _ 13 (omega arith) (omega arith)) (λ _.
           by_test P _ _ _ (λ _. created refl creating) (λ _. refusal_acts _ 11 (omega arith) (omega arith)))
 
@@ -259,8 +258,8 @@ module _ (limit : ℕ) (mem : ServerMemory) where
 
       go : (q : Parsed) → RefusedRightly q → (equal : Bool)
           → P (and_then refuse q (λ _. pick equal (ignore 0) (store_update id (next_number (get_or es id default_entry).number) value 0 all_greeted)))
-      go (Refused fault) (RefusedRightly.refused f) equal = refused f
-      go (Taken n) f equal = by_test P _ _ _ (λ _. ignored refl) (λ _. updated refl writing)
+      go (Err fault) (RefusedRightly.refused f) equal = refused f
+      go (Ok n) f equal = by_test P _ _ _ (λ _. ignored refl) (λ _. updated refl writing)
 
   other_acts : (call : Call) → ((c : ℕ) (m : List ℕ) → call ≢ client_message c m) → Acts mem call 0 (judge limit es mem.marks call)
   unfolding judge

@@ -1,7 +1,6 @@
 -- Fields of a varying length at a place of a message. Past the end of the message there are no bytes.
 use Rattle.std.specs.Prelude.{ℕ, List, drop}
-use Rattle.field.specs.Field.{moved_by}
-use Rattle.field.specs.declared.Parsed.{Parsed}
+use Rattle.field.specs.Field.{moved_by, Parsed}
 use Rattle.text.specs.Text.{parse_text}
 use Rattle.value.specs.Value.{parse_value}
 

@@ -1,4 +1,5 @@
 -- The first check that fails is what the verdict on the message says.
+use Rattle.std.specs.Prelude.{Ok, Err}
 use mathlib.Core.Path.{◌≡◌, refl, sym, ap, ◌∙◌}
 use mathlib.Core.Bool.{Bool, true, false, not, ◌&&◌, and-eq-true_iff}
 use mathlib.Core.List.{List, [], ◌∷◌, ◌++◌}
@@ -9,10 +10,8 @@ use lib.ListN.{length, drop, get_or}
 use borrow.Author.Tests.{ltb-true, eqb-true}
 use Rattle.field.specs.Choice.{pick}
 use Rattle.field.specs.Octets.{decode16}
-use Rattle.field.specs.Field.{fault_at, moved_by, and_then}
+use Rattle.field.specs.Field.{fault_at, moved_by, and_then, Parsed}
 use Rattle.field.specs.declared.Fault.{Fault}
-use Rattle.field.specs.declared.Parsed.{Parsed}
-use Rattle.field.specs.declared.Parsed.TheVariants as R
 use Rattle.field.proofs.ChoiceLaws.{by_test}
 use Rattle.sequence.specs.SequenceNumber.{distance, passed_by}
 use Rattle.text.specs.Text.{parse_text}
@@ -75,8 +74,8 @@ module _ (limit : ℕ) (es : List Entry) (known : KnownTypes es) (m : List ℕ) 
 
   -- a field, and then what is made of the rest
   assignment_then : (p : Parsed) (f : ℕ → AssignmentRead) → of_assignment (and_then A.Refused p f) ≡ and_then Refused p (λ n. of_assignment (f n))
-  assignment_then (R.Refused fault) f = assignment_refused fault
-  assignment_then (R.Taken n) f = refl
+  assignment_then (Err fault) f = assignment_refused fault
+  assignment_then (Ok n) f = refl
 
   name : List ℕ
   name = name_in (name_length_in m) m
@@ -102,8 +101,8 @@ module _ (limit : ℕ) (es : List Entry) (known : KnownTypes es) (m : List ℕ) 
       ∙ value_checks_lem type m place assignment_last k
     where
       go : (p : Parsed) → and_then Refused p (λ n. of_assignment (f n)) ≡ and_then Refused p (λ _. assignment_last)
-      go (R.Refused fault) = refl
-      go (R.Taken v) = is v
+      go (Err fault) = refl
+      go (Ok v) = is v
 
   -- a test, and the refusal where it does not pass
   assignment_test : (b : Bool) (number place : ℕ) (r : AssignmentRead) (next : Reason) → (b ≡ true → of_assignment r ≡ next)
@@ -179,8 +178,8 @@ module _ (limit : ℕ) (es : List Entry) (known : KnownTypes es) (m : List ℕ) 
   update_value c k = go (moved_by 5 (parse_value (stored_type es (update_id_in m)) (drop 5 m))) ∙ value_checks_lem (stored_type es (update_id_in m)) m 5 update_last k
     where
       go : (p : Parsed) → of_update c (and_then U.Refused p (λ v. U.Update (update_id_in m) (received_in m) v)) ≡ and_then Refused p (λ _. update_last)
-      go (R.Refused fault) = update_refused c fault
-      go (R.Taken v) = update_read c v
+      go (Err fault) = update_refused c fault
+      go (Ok v) = update_read c v
 
   update_explained : (c : ℕ) → of_update c (parse_held_update es m) ≡ first_failing (update_checks es m) (Applied (distance (stored_in es m) (received_in m)))
   unfolding parse_update parse_behind_update_id update_checks first_failing update_last number_reason KnownTypes

@@ -1,4 +1,5 @@
 -- A field's checks are what its reader checks: the first that fails is the refusal, and where all pass the reading goes on.
+use Rattle.std.specs.Prelude.{Ok, Err}
 use mathlib.Core.Path.{◌≡◌, refl, sym, ap, ◌∙◌}
 use mathlib.Core.Bool.{Bool, true, false}
 use mathlib.Core.List.{List, [], ◌∷◌, ◌++◌}
@@ -10,9 +11,7 @@ use lib.Seq.{drop-drop, get_or-drop}
 use borrow.Author.Tests.{leb-true, leb-false, le-leb, lt-leb}
 use Rattle.field.specs.Choice.{pick}
 use Rattle.field.specs.Octets.{decode16}
-use Rattle.field.specs.Field.{fault_at, moved_by, and_then}
-use Rattle.field.specs.declared.Parsed.{Parsed}
-use Rattle.field.specs.declared.Parsed.TheVariants as R
+use Rattle.field.specs.Field.{fault_at, moved_by, and_then, Parsed}
 use Rattle.text.specs.Text.{parse_text}
 use Rattle.value.specs.Value.{string, array_of, known_type, max_value_size, parse_boolean, parse_double, parse_element, elements, parse_array, parse_value}
 use Rattle.reason.specs.Reason.{refused_at}
@@ -42,7 +41,7 @@ read_at place r next = and_then Refused (moved_by place r) next
 -- ---- a text
 
 four : (place k n1 p1 n2 p2 n3 p3 n4 p4 : ℕ) (next : ℕ → Reason) (a b c d : Bool)
-    → read_at place (pick a (pick b (pick c (pick d (R.Taken k) (R.Refused (fault_at n4 p4))) (R.Refused (fault_at n3 p3))) (R.Refused (fault_at n2 p2))) (R.Refused (fault_at n1 p1))) next
+    → read_at place (pick a (pick b (pick c (pick d (Ok k) (Err (fault_at n4 p4))) (Err (fault_at n3 p3))) (Err (fault_at n2 p2))) (Err (fault_at n1 p1))) next
     ≡ pick a (pick b (pick c (pick d (next k) (refused_at n4 (place + p4))) (refused_at n3 (place + p3))) (refused_at n2 (place + p2))) (refused_at n1 (place + p1))
 unfolding pick
 four place k n1 p1 n2 p2 n3 p3 n4 p4 next false b c d = refl
@@ -64,14 +63,14 @@ text_checks_lem m maxSize sizeSoFar place next =
 
 -- ---- elements
 
-one : (place k n1 p1 : ℕ) (next : ℕ → Reason) (a : Bool) → read_at place (pick a (R.Taken k) (R.Refused (fault_at n1 p1))) next ≡ pick a (next k) (refused_at n1 (place + p1))
+one : (place k n1 p1 : ℕ) (next : ℕ → Reason) (a : Bool) → read_at place (pick a (Ok k) (Err (fault_at n1 p1))) next ≡ pick a (next k) (refused_at n1 (place + p1))
 unfolding pick
 one place k n1 p1 next false = refl
 one place k n1 p1 next true = refl
 
 -- one field with a rule, and what is read behind it
 two : (place n1 p1 n2 p2 : ℕ) (behind : Parsed) (next : ℕ → Reason) (a b : Bool)
-    → read_at place (pick a (pick b behind (R.Refused (fault_at n2 p2))) (R.Refused (fault_at n1 p1))) next
+    → read_at place (pick a (pick b behind (Err (fault_at n2 p2))) (Err (fault_at n1 p1))) next
     ≡ pick a (pick b (read_at place behind next) (refused_at n2 (place + p2))) (refused_at n1 (place + p1))
 unfolding pick
 two place n1 p1 n2 p2 behind next false b = refl
@@ -83,7 +82,7 @@ boolean_checks : (m : List ℕ) (place : ℕ) (next : ℕ → Reason)
 unfolding parse_boolean
 boolean_checks m place next =
     let here : place + 0 ≡ place = omega arith in
-    two place 1 0 8 0 (R.Taken 1) next _ _ ∙ rw (there_behind m place 1 (omega arith), get_or-drop place m 0 0, here)
+    two place 1 0 8 0 (Ok 1) next _ _ ∙ rw (there_behind m place 1 (omega arith), get_or-drop place m 0 0, here)
 
 double_checks : (m : List ℕ) (place : ℕ) (next : ℕ → Reason)
     → read_at place (parse_double (drop place m)) next ≡ pick (leb (place + 8) (length m)) (next 8) (refused_at 1 place)
@@ -107,9 +106,9 @@ element_checks_lem element m sizeSoFar place next = go (eqb element 0) (eqb elem
 
 -- what is read behind an element, from the start of its array
 then_behind : (from sizeSoFar : ℕ) (p : Parsed) (f : ℕ → Parsed) (next : ℕ → Reason)
-    → read_at from (and_then R.Refused (moved_by sizeSoFar p) f) next ≡ read_at (from + sizeSoFar) p (λ n. read_at from (f n) next)
-then_behind from sizeSoFar (R.Refused fault) f next = let same : from + (sizeSoFar + fault.place) ≡ from + sizeSoFar + fault.place = omega arith in rw same
-then_behind from sizeSoFar (R.Taken n) f next = refl
+    → read_at from (and_then Err (moved_by sizeSoFar p) f) next ≡ read_at (from + sizeSoFar) p (λ n. read_at from (f n) next)
+then_behind from sizeSoFar (Err fault) f next = let same : from + (sizeSoFar + fault.place) ≡ from + sizeSoFar + fault.place = omega arith in rw same
+then_behind from sizeSoFar (Ok n) f next = refl
 
 pub elements_checks_lem : (element count : ℕ) (m : List ℕ) (from sizeSoFar : ℕ) (passed : Reason)
     → read_at from (elements (parse_element element) count sizeSoFar (drop (from + sizeSoFar) m)) (λ _. passed)

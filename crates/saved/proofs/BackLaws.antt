@@ -1,4 +1,5 @@
 -- An entry's record is taken, and gives the entry back.
+use Rattle.std.specs.Prelude.{Ok}
 use mathlib.Core.Path.{◌≡◌, refl, sym, ap, ◌∙◌}
 use mathlib.Core.List.{List, [], ◌∷◌, ◌++◌}
 use Prim.Native.Nat.{ℕ, ◌+◌, ◌-◌, ◌≤◌}
@@ -8,7 +9,6 @@ use lib.Seq.{drop-drop, get_or-drop, take-append_seam, drop-append_seam, take_at
 use borrow.Author.Tests.{le-leb, eq-eqb}
 use Rattle.field.specs.Choice.{pick}
 use Rattle.field.specs.Octets.{decode16, encode16}
-use Rattle.field.specs.declared.Parsed.TheVariants.{Taken}
 use Rattle.field.proofs.OctetsLaws.{decode_encode}
 use Rattle.value.specs.Value.{max_value_size}
 use Rattle.value.proofs.ValueLaws.{value_small, value_known, lone_taken}
@@ -21,11 +21,11 @@ use Rattle.saved.proofs.RecordLaws.{NamedFacts, ValuedFacts, record_then, record
 
 -- ---- the facts give that the record is taken
 
-pub opening_taken : (kind most : ℕ) (s : List ℕ) → get_or s 0 0 ≡ kind → get_or s 1 0 ≤ most → opening_size ≤ length s → parse_opening kind most s ≡ Taken opening_size
+pub opening_taken : (kind most : ℕ) (s : List ℕ) → get_or s 0 0 ≡ kind → get_or s 1 0 ≤ most → opening_size ≤ length s → parse_opening kind most s ≡ Ok opening_size
 unfolding parse_opening pick
 opening_taken kind most s e l h = rw (le-leb 1 (length s) (omega arith), eq-eqb (get_or s 0 0) kind e, le-leb opening_size (length s) h, le-leb (get_or s 1 0) most l)
 
-named_taken : (s : List ℕ) → NamedFacts s → entry_record_size ≤ length s → parse_up_to_type s ≡ Taken type_place
+named_taken : (s : List ℕ) → NamedFacts s → entry_record_size ≤ length s → parse_up_to_type s ≡ Ok type_place
 unfolding parse_up_to_type parse_name_in parse_filling pick
 named_taken s f h =
     rw (
@@ -36,7 +36,7 @@ named_taken s f h =
       f.name_filled,
     )
 
-valued_taken : (s : List ℕ) → ValuedFacts s → parse_from_type s ≡ Taken entry_record_size
+valued_taken : (s : List ℕ) → ValuedFacts s → parse_from_type s ≡ Ok entry_record_size
 unfolding parse_from_type parse_value_in parse_filling pick
 valued_taken s g =
     rw (
@@ -51,7 +51,7 @@ valued_taken s g =
       g.value_filled,
     )
 
-facts_taken : (s : List ℕ) → NamedFacts s → ValuedFacts s → parse_record s ≡ Taken entry_record_size
+facts_taken : (s : List ℕ) → NamedFacts s → ValuedFacts s → parse_record s ≡ Ok entry_record_size
 unfolding parse_record
 facts_taken s f g = rw (named_taken s f g.whole) (valued_taken s g)
 
@@ -173,7 +173,7 @@ module _ (e : Entry) (rest : List ℕ) (w : WellFormed e) where
         value_filled = rw value_zeros (all_zero_lem (max_value_size - v));
       }
 
-  pub record_taken : parse_record (entry_record e ++ rest) ≡ Taken entry_record_size
+  pub record_taken : parse_record (entry_record e ++ rest) ≡ Ok entry_record_size
   record_taken = rw (record_then_lem e rest) (facts_taken s named valued)
 
   pub record_rest : drop entry_record_size (entry_record e ++ rest) ≡ rest

@@ -1,4 +1,5 @@
 -- What is read is what was saved, and what was saved is read back.
+use Rattle.std.specs.Prelude.{Err, Ok}
 use mathlib.Core.Path.{◌≡◌, refl, sym, ap, ◌∙◌}
 use mathlib.Core.Bool.{true, false, not, and-eq-true_iff}
 use mathlib.Core.List.{List, [], ◌∷◌, ◌++◌, append_assoc, append-nil}
@@ -9,10 +10,8 @@ use lib.Seq.{get_or-drop, get_or_at}
 use borrow.Author.Tests.{leb-true, not-true}
 use Rattle.field.specs.Answer.{too_long, name_taken}
 use Rattle.field.specs.Choice.{pick}
-use Rattle.field.specs.Field.{fault_at, moved_by, and_then}
+use Rattle.field.specs.Field.{fault_at, moved_by, and_then, Parsed}
 use Rattle.field.specs.declared.Fault.{Fault}
-use Rattle.field.specs.declared.Parsed.{Parsed}
-use Rattle.field.specs.declared.Parsed.TheVariants.{Refused, Taken}
 use Rattle.field.proofs.ChoiceLaws.{by_test}
 use Rattle.value.proofs.ValueLaws.{value_small}
 use Rattle.message.specs.Layout.{Entry, WellFormed}
@@ -64,8 +63,8 @@ records_are (suc count) xs place s = go (parse_record s) (record_is s) (λ e n. 
         → ((e : Entry) (n : ℕ) → RecordsAre count (xs ++ (e ∷ [])) (drop n s) (read_records count (xs ++ (e ∷ [])) (place + n) (drop n s)))
         → RecordsAre (suc count) xs s (and_then refused (moved_by place r) (λ n.
         pick (name_held (record_entry s).name xs) (refused (fault_at name_taken place)) (read_records count (xs ++ (record_entry s ∷ [])) (place + n) (drop n s))))
-    go (Refused fault) (RecordIs.refused h l) ih = RecordsAre.rejected {fault = fault_at fault.number (place + fault.place)} h
-    go (Taken n) (RecordIs.taken f g) ih =
+    go (Err fault) (RecordIs.refused h l) ih = RecordsAre.rejected {fault = fault_at fault.number (place + fault.place)} h
+    go (Ok n) (RecordIs.taken f g) ih =
         by_test (RecordsAre (suc count) xs s) _ _ _ (λ _. RecordsAre.rejected {fault = fault_at name_taken place} (omega arith)) (λ new.
         read_next count xs s (record_entry s) (record_of_entry s f g) (entry_obeys s f g) new _ (ih (record_entry s) entry_record_size))
 
@@ -99,8 +98,8 @@ saved_is limit s = go (parse_opening count_kind limit s) (opening_is count_kind 
         SavedIs.entries {es = all} few fresh form)
 
     go : (r : Parsed) → OpeningIs count_kind limit s r → SavedIs limit s (and_then refused r (λ n. read_records (count_in s) [] n (drop n s)))
-    go (Refused fault) (OpeningIs.refused h l) = SavedIs.rejected h
-    go (Taken n) (OpeningIs.opened kind small there) = end small (front s kind there) _ (records_are (count_in s) [] count_record_size (drop count_record_size s))
+    go (Err fault) (OpeningIs.refused h l) = SavedIs.rejected h
+    go (Ok n) (OpeningIs.opened kind small there) = end small (front s kind there) _ (records_are (count_in s) [] count_record_size (drop count_record_size s))
 
 -- ---- reading back
 

@@ -1,4 +1,5 @@
 -- An entry's record: what is read of one that is taken, and that it is the record of that entry.
+use Rattle.std.specs.Prelude.{Err, Ok}
 use mathlib.Core.Path.{◌≡◌, refl, sym, ap, ◌∙◌}
 use mathlib.Core.Bool.{true}
 use mathlib.Core.List.{List, ◌∷◌, ◌++◌, append_assoc}
@@ -10,10 +11,8 @@ use lib.Seq.{drop-cons, drop-drop, length-take-le}
 use borrow.Author.Tests.{leb-true, eqb-true}
 use Rattle.field.specs.Answer.{incomplete, unknown_kind, unknown_type, not_utf8, too_long, bad_filling}
 use Rattle.field.specs.Octets.{decode16, encode16}
-use Rattle.field.specs.Field.{fault_at, fault_of, moved_by, and_then}
+use Rattle.field.specs.Field.{fault_at, fault_of, moved_by, and_then, Parsed}
 use Rattle.field.specs.declared.Fault.{Fault}
-use Rattle.field.specs.declared.Parsed.{Parsed}
-use Rattle.field.specs.declared.Parsed.TheVariants.{Refused, Taken}
 use Rattle.field.proofs.ChoiceLaws.{by_test}
 use Rattle.field.proofs.OctetsLaws.{decode_at}
 use Rattle.utf8.specs.Utf8.{is_utf8}
@@ -30,8 +29,8 @@ use Rattle.saved.proofs.ZeroLaws.{zeros}
 -- ---- how a record opens
 
 pub data OpeningIs (kind most : ℕ) (s : List ℕ) : Parsed → Type 0 where
-  refused : {fault : Fault} → 1 ≤ fault.number → fault.place ≤ 1 → OpeningIs kind most s (Refused fault)
-  opened : get_or s 0 0 ≡ kind → get_or s 1 0 ≤ most → opening_size ≤ length s → OpeningIs kind most s (Taken opening_size)
+  refused : {fault : Fault} → 1 ≤ fault.number → fault.place ≤ 1 → OpeningIs kind most s (Err fault)
+  opened : get_or s 0 0 ≡ kind → get_or s 1 0 ≤ most → opening_size ≤ length s → OpeningIs kind most s (Ok opening_size)
 
 pub opening_is : (kind most : ℕ) (s : List ℕ) → OpeningIs kind most s (parse_opening kind most s)
 unfolding parse_opening
@@ -46,13 +45,13 @@ opening_is kind most s =
     Is : Parsed → Type 0
     Is = OpeningIs kind most s
 
-    no_opening : (number place : ℕ) → 1 ≤ number → place ≤ 1 → OpeningIs kind most s (Refused (fault_at number place))
+    no_opening : (number place : ℕ) → 1 ≤ number → place ≤ 1 → OpeningIs kind most s (Err (fault_at number place))
     no_opening number place h l = OpeningIs.refused {fault = fault_at number place} h l
 
-pub opening_facts : (kind most : ℕ) (s : List ℕ) (n : ℕ) → parse_opening kind most s ≡ Taken n → (n ≡ opening_size) × (get_or s 1 0 ≤ most) × (opening_size ≤ length s)
+pub opening_facts : (kind most : ℕ) (s : List ℕ) (n : ℕ) → parse_opening kind most s ≡ Ok n → (n ≡ opening_size) × (get_or s 1 0 ≤ most) × (opening_size ≤ length s)
 opening_facts kind most s n e = go n (rw e at (opening_is kind most s))
   where
-    go : (m : ℕ) → OpeningIs kind most s (Taken m) → (m ≡ opening_size) × (get_or s 1 0 ≤ most) × (opening_size ≤ length s)
+    go : (m : ℕ) → OpeningIs kind most s (Ok m) → (m ≡ opening_size) × (get_or s 1 0 ≤ most) × (opening_size ≤ length s)
     go m (OpeningIs.opened same small there) = (refl, small, there)
 
 -- ---- what a record that is taken has
@@ -71,21 +70,21 @@ pub record ValuedFacts (s : List ℕ) : Type 0 where
 
 -- a refusal, and what holds of what is taken
 data NamedIs (s : List ℕ) : Parsed → Type 0 where
-  refused : {fault : Fault} → 1 ≤ fault.number → fault.place ≤ entry_record_size → NamedIs s (Refused fault)
-  taken : NamedFacts s → NamedIs s (Taken type_place)
+  refused : {fault : Fault} → 1 ≤ fault.number → fault.place ≤ entry_record_size → NamedIs s (Err fault)
+  taken : NamedFacts s → NamedIs s (Ok type_place)
 
 data ValuedIs (s : List ℕ) : Parsed → Type 0 where
-  refused : {fault : Fault} → 1 ≤ fault.number → fault.place ≤ entry_record_size → ValuedIs s (Refused fault)
-  taken : ValuedFacts s → ValuedIs s (Taken entry_record_size)
+  refused : {fault : Fault} → 1 ≤ fault.number → fault.place ≤ entry_record_size → ValuedIs s (Err fault)
+  taken : ValuedFacts s → ValuedIs s (Ok entry_record_size)
 
 pub data RecordIs (s : List ℕ) : Parsed → Type 0 where
-  refused : {fault : Fault} → 1 ≤ fault.number → fault.place ≤ entry_record_size → RecordIs s (Refused fault)
-  taken : NamedFacts s → ValuedFacts s → RecordIs s (Taken entry_record_size)
+  refused : {fault : Fault} → 1 ≤ fault.number → fault.place ≤ entry_record_size → RecordIs s (Err fault)
+  taken : NamedFacts s → ValuedFacts s → RecordIs s (Ok entry_record_size)
 
-no_name : {s : List ℕ} (number place : ℕ) → 1 ≤ number → place ≤ entry_record_size → NamedIs s (Refused (fault_at number place))
+no_name : {s : List ℕ} (number place : ℕ) → 1 ≤ number → place ≤ entry_record_size → NamedIs s (Err (fault_at number place))
 no_name number place h l = NamedIs.refused {fault = fault_at number place} h l
 
-no_value : {s : List ℕ} (number place : ℕ) → 1 ≤ number → place ≤ entry_record_size → ValuedIs s (Refused (fault_at number place))
+no_value : {s : List ℕ} (number place : ℕ) → 1 ≤ number → place ≤ entry_record_size → ValuedIs s (Err (fault_at number place))
 no_value number place h l = ValuedIs.refused {fault = fault_at number place} h l
 
 named_is : (s : List ℕ) → NamedIs s (parse_up_to_type s)
@@ -103,9 +102,9 @@ named_is s = go (parse_opening entry_kind max_name_length s) (opening_is entry_k
         (λ _. no_name bad_filling (name_place + name_length_in s) (omega arith) behind)) (λ _. no_name incomplete (name_place + name_length_in s) (omega arith) behind))
         (λ _. no_name not_utf8 name_place (omega arith) (omega arith))) (λ _. no_name incomplete name_place (omega arith) (omega arith))
 
-    go : (r : Parsed) → OpeningIs entry_kind max_name_length s r → NamedIs s (and_then Refused r (λ n. parse_name_in s))
-    go (Refused fault) (OpeningIs.refused h l) = NamedIs.refused {fault = fault} h (omega (arith, l))
-    go (Taken n) (OpeningIs.opened kind small there) = named kind small
+    go : (r : Parsed) → OpeningIs entry_kind max_name_length s r → NamedIs s (and_then Err r (λ n. parse_name_in s))
+    go (Err fault) (OpeningIs.refused h l) = NamedIs.refused {fault = fault} h (omega (arith, l))
+    go (Ok n) (OpeningIs.opened kind small there) = named kind small
 
 valued_is : (s : List ℕ) → ValuedIs s (parse_from_type s)
 unfolding parse_from_type parse_value_in parse_filling
@@ -133,22 +132,22 @@ valued_is s =
         (λ _. no_value bad_filling (value_place + value_length_in s) (omega arith) short)) (λ _. no_value incomplete (value_place + value_length_in s) (omega arith) short)
 
     go : value_length_in s ≤ max_value_size → (r : Parsed) → RefusedRightly r → (fault_of r).place ≤ length stored → LoneIs (type_in s) stored r
-        → ValuedIs s (and_then Refused (moved_by value_place r) (λ n. parse_filling (value_place + value_length_in s) entry_record_size s))
-    go small (Refused fault) (RefusedRightly.refused h) l LoneIs.refused =
+        → ValuedIs s (and_then Err (moved_by value_place r) (λ n. parse_filling (value_place + value_length_in s) entry_record_size s))
+    go small (Err fault) (RefusedRightly.refused h) l LoneIs.refused =
         no_value fault.number (value_place + fault.place) h.above (omega (arith, l, small, length-take (value_length_in s) (drop value_place s)))
-    go small (Taken n) h l (LoneIs.taken m v) = behind small v
+    go small (Ok n) h l (LoneIs.taken m v) = behind small v
 
 pub record_is : (s : List ℕ) → RecordIs s (parse_record s)
 unfolding parse_record
 record_is s = go (parse_up_to_type s) (named_is s)
   where
     end : NamedFacts s → (r : Parsed) → ValuedIs s r → RecordIs s r
-    end f (Refused fault) (ValuedIs.refused h l) = RecordIs.refused h l
-    end f (Taken n) (ValuedIs.taken g) = RecordIs.taken f g
+    end f (Err fault) (ValuedIs.refused h l) = RecordIs.refused h l
+    end f (Ok n) (ValuedIs.taken g) = RecordIs.taken f g
 
-    go : (r : Parsed) → NamedIs s r → RecordIs s (and_then Refused r (λ n. parse_from_type s))
-    go (Refused fault) (NamedIs.refused h l) = RecordIs.refused h l
-    go (Taken n) (NamedIs.taken f) = end f (parse_from_type s) (valued_is s)
+    go : (r : Parsed) → NamedIs s r → RecordIs s (and_then Err r (λ n. parse_from_type s))
+    go (Err fault) (NamedIs.refused h l) = RecordIs.refused h l
+    go (Ok n) (NamedIs.taken f) = end f (parse_from_type s) (valued_is s)
 
 -- ---- a record and what follows, field by field
 

@@ -1,14 +1,12 @@
 -- The reader of a saved form: "left to right 1, 4, 10 for a count or name length above 64 or a value length above 256, 9, 7, the value's own as for a local
 -- value of its stated length, 15 for filling that is not zero, judged after the text or value it follows; 13 once an entry's record is read; last 10
 -- for bytes left. A name, a value of its stated length and each filling are one field each, judged as in 01 once wholly there".
-use Rattle.std.specs.Prelude.{ℕ, zero, suc, ◌+◌, ◌-◌, Bool, true, ◌&&◌, List, [], ◌∷◌, ◌++◌, length, drop, get_or, leb, eqb}
+use Rattle.std.specs.Prelude.{ℕ, zero, suc, ◌+◌, ◌-◌, Bool, true, ◌&&◌, List, [], ◌∷◌, ◌++◌, length, drop, get_or, leb, eqb, Err, Ok}
 use Rattle.field.specs.Answer.{incomplete, unknown_kind, unknown_type, not_utf8, too_long, name_taken, bad_filling}
 use Rattle.field.specs.Choice.{pick, demand}
 use Rattle.field.specs.Octets.{decode16}
-use Rattle.field.specs.Field.{fault_at, demand_bytes, moved_by, and_then}
+use Rattle.field.specs.Field.{fault_at, demand_bytes, moved_by, and_then, Parsed}
 use Rattle.field.specs.declared.Fault.{Fault}
-use Rattle.field.specs.declared.Parsed.{Parsed}
-use Rattle.field.specs.declared.Parsed.TheVariants.{Refused, Taken}
 use Rattle.utf8.specs.Utf8.{is_utf8}
 use Rattle.value.specs.Value.{max_value_size, known_type, parse_lone}
 use Rattle.message.specs.Layout.{Entry, max_name_length, kind_size}
@@ -21,11 +19,11 @@ use Rattle.saved.specs.Form.{count_kind, entry_kind, opening_size, name_length_p
 -- "1, 4, 10 for a count or name length above 64": its kind, and a byte that is at most so much
 unfoldable pub parse_opening : (kind most : ℕ) → List ℕ → Parsed
 parse_opening kind most s =
-    demand_bytes kind_size s (Refused (fault_at incomplete 0))
-    (demand (eqb (get_or s 0 0) kind) (Refused (fault_at unknown_kind 0))
-    (demand_bytes opening_size s (Refused (fault_at incomplete kind_size))
-    (demand (leb (get_or s kind_size 0) most) (Refused (fault_at too_long kind_size))
-    (Taken opening_size))))
+    demand_bytes kind_size s (Err (fault_at incomplete 0))
+    (demand (eqb (get_or s 0 0) kind) (Err (fault_at unknown_kind 0))
+    (demand_bytes opening_size s (Err (fault_at incomplete kind_size))
+    (demand (leb (get_or s kind_size 0) most) (Err (fault_at too_long kind_size))
+    (Ok opening_size))))
 
 -- ---- an entry's record: what its fields are
 
@@ -57,40 +55,40 @@ all_zero (x ∷ xs) = eqb x 0 && all_zero xs
 -- "15 for filling that is not zero": the bytes from one place to another
 unfoldable pub parse_filling : (from to : ℕ) → List ℕ → Parsed
 parse_filling from to s =
-    demand_bytes to s (Refused (fault_at incomplete from))
-    (demand (all_zero (part from (to - from) s)) (Refused (fault_at bad_filling from))
-    (Taken to))
+    demand_bytes to s (Err (fault_at incomplete from))
+    (demand (all_zero (part from (to - from) s)) (Err (fault_at bad_filling from))
+    (Ok to))
 
 -- the name, and "judged after the text .. it follows" its filling
 unfoldable pub parse_name_in : List ℕ → Parsed
 parse_name_in s =
-    demand_bytes (name_place + name_length_in s) s (Refused (fault_at incomplete name_place))
-    (demand (is_utf8 (part name_place (name_length_in s) s)) (Refused (fault_at not_utf8 name_place))
+    demand_bytes (name_place + name_length_in s) s (Err (fault_at incomplete name_place))
+    (demand (is_utf8 (part name_place (name_length_in s) s)) (Err (fault_at not_utf8 name_place))
     (parse_filling (name_place + name_length_in s) type_place s))
 
 -- "kind 2: name length (1), name filled with zeros to 64": up to the type
 unfoldable pub parse_up_to_type : List ℕ → Parsed
-parse_up_to_type s = and_then Refused (parse_opening entry_kind max_name_length s) (λ n. parse_name_in s)
+parse_up_to_type s = and_then Err (parse_opening entry_kind max_name_length s) (λ n. parse_name_in s)
 
 -- "the value's own as for a local value of its stated length", and its filling
 unfoldable pub parse_value_in : List ℕ → Parsed
 parse_value_in s =
-    demand_bytes (value_place + value_length_in s) s (Refused (fault_at incomplete value_place))
-    (and_then Refused (moved_by value_place (parse_lone (type_in s) (part value_place (value_length_in s) s))) (λ n.
+    demand_bytes (value_place + value_length_in s) s (Err (fault_at incomplete value_place))
+    (and_then Err (moved_by value_place (parse_lone (type_in s) (part value_place (value_length_in s) s))) (λ n.
     parse_filling (value_place + value_length_in s) entry_record_size s))
 
 -- "type (1), number (2), value length (2), value filled with zeros to 256": from the type to the record's end, counted from the record's start
 unfoldable pub parse_from_type : List ℕ → Parsed
 parse_from_type s =
-    demand_bytes number_place s (Refused (fault_at incomplete type_place))
-    (demand (known_type (type_in s)) (Refused (fault_at unknown_type type_place))
-    (demand_bytes value_length_place s (Refused (fault_at incomplete number_place))
-    (demand_bytes value_place s (Refused (fault_at incomplete value_length_place))
-    (demand (leb (value_length_in s) max_value_size) (Refused (fault_at too_long value_length_place))
+    demand_bytes number_place s (Err (fault_at incomplete type_place))
+    (demand (known_type (type_in s)) (Err (fault_at unknown_type type_place))
+    (demand_bytes value_length_place s (Err (fault_at incomplete number_place))
+    (demand_bytes value_place s (Err (fault_at incomplete value_length_place))
+    (demand (leb (value_length_in s) max_value_size) (Err (fault_at too_long value_length_place))
     (parse_value_in s)))))
 
 unfoldable pub parse_record : List ℕ → Parsed
-parse_record s = and_then Refused (parse_up_to_type s) (λ n. parse_from_type s)
+parse_record s = and_then Err (parse_up_to_type s) (λ n. parse_from_type s)
 
 -- ---- the whole
 

@@ -1,21 +1,21 @@
 -- How long a Boolean and a Double are.
+use Rattle.std.specs.Prelude.{Err, Ok}
+use Rattle.field.specs.Field.{Parsed}
 use mathlib.Core.List.{List}
 use Prim.Native.Nat.{ℕ, ◌≤◌}
 use lib.ListN.{length}
 use borrow.Author.Tests.{leb-true}
 use Rattle.field.specs.Choice.{pick}
 use Rattle.field.specs.declared.Fault.{Fault}
-use Rattle.field.specs.declared.Parsed.{Parsed}
-use Rattle.field.specs.declared.Parsed.TheVariants.{Refused, Taken}
 use Rattle.field.proofs.ChoiceLaws.{by_test}
 use Rattle.value.specs.Value.{parse_boolean, parse_double, parse_element, parse_value, IsValue}
 
 -- a reader that takes something takes what has a length of at least n
 data Long (n : ℕ) (s : List ℕ) : Parsed → Type 0 where
-  refused : {fault : Fault} → Long n s (Refused fault)
-  taken : {k : ℕ} → n ≤ length s → Long n s (Taken k)
+  refused : {fault : Fault} → Long n s (Err fault)
+  taken : {k : ℕ} → n ≤ length s → Long n s (Ok k)
 
-long_enough : (n : ℕ) (s : List ℕ) (k : ℕ) → Long n s (Taken k) → n ≤ length s
+long_enough : (n : ℕ) (s : List ℕ) (k : ℕ) → Long n s (Ok k) → n ≤ length s
 long_enough n s k (taken h) = h
 
 boolean_long : (s : List ℕ) → Long 1 s (parse_boolean s)

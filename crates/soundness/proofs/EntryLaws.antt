@@ -1,10 +1,10 @@
 -- Laws of a sound entry.
+use Rattle.std.specs.Prelude.{Err, Ok}
+use Rattle.field.specs.Field.{Parsed}
 use Rattle.std.proofs.Common.{◌≡◌, ℕ, ◌<◌, ◌≤◌, true, false, ◌&&◌, leb, List, drop, ◌∙◌, arith, length-take, le-leb, leb-true}
 use mathlib.Core.Bool.{and-false, and-eq-true_iff, false≢true}
 use borrow.Author.Tests.{lt-leb}
 use Rattle.field.specs.Choice.{pick}
-use Rattle.field.specs.declared.Parsed.{Parsed}
-use Rattle.field.specs.declared.Parsed.TheVariants.{Refused, Taken}
 use Rattle.utf8.specs.Utf8.{is_utf8}
 use Rattle.value.specs.Value.{max_value_size, known_type, parse_value, parse_lone, IsValue}
 use Rattle.value.proofs.ValueLaws.{LoneIs, lone_is, lone_taken}
@@ -21,8 +21,8 @@ pub accepted_value : (t : ℕ) (v : List ℕ) → accepted (parse_lone t v) ≡ 
 accepted_value t v h = go (parse_lone t v) (lone_is t v) h
   where
     go : (r : Parsed) → LoneIs t v r → accepted r ≡ true → IsValue t v
-    go (Refused fault) LoneIs.refused e = absurd (false≢true e)
-    go (Taken n) (LoneIs.taken m w) e = w
+    go (Err fault) LoneIs.refused e = absurd (false≢true e)
+    go (Ok n) (LoneIs.taken m w) e = w
 
 -- a type of two bytes is not known
 pub type_unknown : (t : ℕ) (v : List ℕ) → 255 < t → accepted (parse_lone t v) ≡ false

@@ -1,8 +1,7 @@
 -- A sound table: "a count of 0 to 64, known types, names and values that obey this paper, and names that all differ byte for byte";
 -- "connection marks are one of the three".
-use Rattle.std.specs.Prelude.{ℕ, zero, suc, ◌*◌, Bool, true, false, ◌&&◌, leb, List, length, nat_le, slice_index}
-use Rattle.field.specs.declared.Parsed.{Parsed}
-use Rattle.field.specs.declared.Parsed.TheVariants.{Refused, Taken}
+use Rattle.field.specs.Field.{Parsed}
+use Rattle.std.specs.Prelude.{ℕ, zero, suc, ◌*◌, Bool, true, false, ◌&&◌, leb, List, length, nat_le, slice_index, Err, Ok}
 use Rattle.utf8.specs.Utf8.{is_utf8}
 use Rattle.value.specs.Value.{max_value_size, parse_lone}
 use Rattle.message.specs.Layout.{max_name_length}
@@ -16,8 +15,8 @@ all_below (suc n) p = all_below n p && p n
 
 -- a reader took what it was given
 abbrev pub accepted : Parsed → Bool
-accepted (Refused fault) = false
-accepted (Taken n) = true
+accepted (Err fault) = false
+accepted (Ok n) = true
 
 -- entry i has a name and a value that obey the rules: the value fills its stored length, and so its type is known.
 -- Every 16-bit number is a sequence number.

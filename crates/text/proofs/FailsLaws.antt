@@ -1,4 +1,5 @@
 -- What is true at the place that a text is refused with.
+use Rattle.field.specs.Field.{Parsed}
 use mathlib.Core.Path.{◌≡◌, sym}
 use mathlib.Core.Bool.{false, false≢true}
 use mathlib.Core.Logic.{◌≢◌}
@@ -11,7 +12,6 @@ use Rattle.field.specs.Answer.{unknown_type}
 use Rattle.field.specs.Choice.{pick}
 use Rattle.field.specs.Octets.{decode16}
 use Rattle.field.specs.Place.{TellsPlace}
-use Rattle.field.specs.declared.Parsed.{Parsed}
 use Rattle.field.proofs.ChoiceLaws.{by_test}
 use Rattle.field.proofs.PlaceLaws.{Refuses, refuses_with, refused_with_lem}
 use Rattle.utf8.specs.Utf8.{is_utf8, utf8_from}

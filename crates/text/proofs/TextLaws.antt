@@ -1,4 +1,5 @@
 -- Laws of a text behind its length.
+use Rattle.std.specs.Prelude.{Err, Ok}
 use mathlib.Core.Path.{◌≡◌, refl}
 use mathlib.Core.Bool.{true}
 use mathlib.Core.List.{List, ◌++◌}
@@ -11,10 +12,8 @@ use borrow.Author.Tests.{leb-true, le-leb}
 use Rattle.field.specs.Answer.{incomplete, not_utf8, too_long}
 use Rattle.field.specs.Choice.{pick, demand}
 use Rattle.field.specs.Octets.{decode16, encode16}
-use Rattle.field.specs.Field.{fault_at, fault_of, demand_bytes}
+use Rattle.field.specs.Field.{fault_at, fault_of, demand_bytes, Parsed}
 use Rattle.field.specs.declared.Fault.{Fault}
-use Rattle.field.specs.declared.Parsed.{Parsed}
-use Rattle.field.specs.declared.Parsed.TheVariants.{Refused, Taken}
 use Rattle.field.proofs.ChoiceLaws.{by_test}
 use Rattle.field.proofs.OctetsLaws.{decode_encode, same_length, same_decode, same_rest}
 use Rattle.utf8.specs.Utf8.{is_utf8}
@@ -23,17 +22,17 @@ use Rattle.text.specs.Text.{parse_text}
 -- what a reader has checked once its prefix is there
 pub after_prefix : (maxSize sizeSoFar n : ℕ) (s : List ℕ) → 2 ≤ length s → n ≡ decode16 s
     → parse_text maxSize sizeSoFar s
-    ≡ demand (leb (sizeSoFar + (2 + n)) maxSize) (Refused (fault_at too_long 0))
-    (demand_bytes (2 + n) s (Refused (fault_at incomplete 2)) (demand (is_utf8 (take n (drop 2 s))) (Refused (fault_at not_utf8 2)) (Taken (2 + n))))
+    ≡ demand (leb (sizeSoFar + (2 + n)) maxSize) (Err (fault_at too_long 0))
+    (demand_bytes (2 + n) s (Err (fault_at incomplete 2)) (demand (is_utf8 (take n (drop 2 s))) (Err (fault_at not_utf8 2)) (Ok (2 + n))))
 unfolding parse_text pick
 after_prefix maxSize sizeSoFar n s h e = rw (le-leb 2 (length s) h, ← e)
 
 -- ---- what is known of a text that was read
 
 pub data TextIs (maxSize sizeSoFar : ℕ) (s : List ℕ) : Parsed → Type 0 where
-  refused : {fault : Fault} → fault.place ≤ length s → TextIs maxSize sizeSoFar s (Refused fault)
+  refused : {fault : Fault} → fault.place ≤ length s → TextIs maxSize sizeSoFar s (Err fault)
   taken : {n : ℕ} → n ≡ 2 + decode16 s → n ≤ length s → sizeSoFar + n ≤ maxSize → is_utf8 (take (decode16 s) (drop 2 s)) ≡ true
-      → ((t : List ℕ) → take n t ≡ take n s → parse_text maxSize sizeSoFar t ≡ Taken n) → TextIs maxSize sizeSoFar s (Taken n)
+      → ((t : List ℕ) → take n t ≡ take n s → parse_text maxSize sizeSoFar t ≡ Ok n) → TextIs maxSize sizeSoFar s (Ok n)
 
 pub text_is : (maxSize sizeSoFar : ℕ) (s : List ℕ) → TextIs maxSize sizeSoFar s (parse_text maxSize sizeSoFar s)
 unfolding parse_text pick
@@ -51,7 +50,7 @@ text_is maxSize sizeSoFar s =
 
 -- reading back what was written, whatever stands behind it
 pub text_back : (maxSize : ℕ) (name rest : List ℕ) → 2 + length name ≤ maxSize → is_utf8 name ≡ true
-    → parse_text maxSize 0 (encode16 (length name) ++ (name ++ rest)) ≡ Taken (2 + length name)
+    → parse_text maxSize 0 (encode16 (length name) ++ (name ++ rest)) ≡ Ok (2 + length name)
 unfolding parse_text encode16 pick
 text_back maxSize name rest h u =
     rw (
@@ -67,5 +66,5 @@ pub text_place : (maxSize sizeSoFar : ℕ) (s : List ℕ) → (fault_of (parse_t
 text_place maxSize sizeSoFar s = go (parse_text maxSize sizeSoFar s) (text_is maxSize sizeSoFar s)
   where
     go : (r : Parsed) → TextIs maxSize sizeSoFar s r → (fault_of r).place ≤ length s
-    go (Refused fault) (refused h) = h
-    go (Taken n) t = omega arith
+    go (Err fault) (refused h) = h
+    go (Ok n) t = omega arith

@@ -1,11 +1,10 @@
 -- "the place of the first byte of the field that failed: a text's bytes for 9, a prefix .. for 10"; "with 1 the first field not wholly there".
 -- Proved in proofs/FailsLaws.antt.
-use Rattle.std.specs.Prelude.{ℕ, ◌+◌, ◌≤◌, ◌<◌, false, List, ◌≡◌, length, take, drop}
+use Rattle.std.specs.Prelude.{ℕ, ◌+◌, ◌≤◌, ◌<◌, false, List, ◌≡◌, length, take, drop, Err}
 use Rattle.field.specs.Answer.{incomplete, not_utf8, too_long}
 use Rattle.field.specs.Octets.{decode16}
 use Rattle.field.specs.Field.{fault_at}
 use Rattle.field.specs.declared.Fault.{Fault}
-use Rattle.field.specs.declared.Parsed.TheVariants.{Refused}
 use Rattle.utf8.specs.Utf8.{is_utf8}
 use Rattle.text.specs.Text.{prefix_size, parse_text}
 
@@ -21,11 +20,11 @@ pub data TextFailsAt (maxSize sizeSoFar : ℕ) (s : List ℕ) : (number place : 
 
 abbrev pub TextFails : Type 0
 TextFails =
-    (maxSize sizeSoFar : ℕ) (s : List ℕ) (fault : Fault) → parse_text maxSize sizeSoFar s ≡ Refused fault
+    (maxSize sizeSoFar : ℕ) (s : List ℕ) (fault : Fault) → parse_text maxSize sizeSoFar s ≡ Err fault
     → TextFailsAt maxSize sizeSoFar s fault.number fault.place
 
 -- and the other way: where it fails so, the text is refused so
 abbrev pub TextFailing : Type 0
 TextFailing =
     (maxSize sizeSoFar : ℕ) (s : List ℕ) (number place : ℕ) → TextFailsAt maxSize sizeSoFar s number place
-    → parse_text maxSize sizeSoFar s ≡ Refused (fault_at number place)
+    → parse_text maxSize sizeSoFar s ≡ Err (fault_at number place)

@@ -1,5 +1,6 @@
 -- Laws of a Boolean, Double or String, and of a run of them.
-use mathlib.Core.Path.{◌≡◌, refl}
+use Rattle.std.specs.Prelude.{Err, Ok}
+use mathlib.Core.Path.{◌≡◌, refl, sym, ◌∙◌}
 use mathlib.Core.Bool.{Bool, true, false}
 use mathlib.Core.List.{List}
 use Prim.Native.Nat.{ℕ, zero, suc, ◌+◌, ◌-◌, ◌*◌, ◌≤◌, ◌<◌}
@@ -9,10 +10,8 @@ use lib.Seq.{drop-drop}
 use lib.Dec.{leb, eqb}
 use borrow.Author.Tests.{leb-true, le-leb}
 use Rattle.field.specs.Choice.{pick}
-use Rattle.field.specs.Field.{fault_at, and_then, moved_by}
+use Rattle.field.specs.Field.{fault_at, fault_of, and_then, moved_by, Parsed}
 use Rattle.field.specs.declared.Fault.{Fault}
-use Rattle.field.specs.declared.Parsed.{Parsed}
-use Rattle.field.specs.declared.Parsed.TheVariants.{Refused, Taken}
 use Rattle.field.proofs.ChoiceLaws.{by_test}
 use Rattle.field.proofs.OctetsLaws.{same_length, same_get_or, same_front, same_rest}
 use Rattle.text.specs.Text.{parse_text}
@@ -22,14 +21,14 @@ use Rattle.value.specs.Value.{max_value_size, count_fits, parse_boolean, parse_d
 -- what is known of a reader's answer: a refusal stands within the bytes; what is taken is there,
 -- at most `most` bytes, and is taken wherever the same bytes stand first
 pub data Reads (read : List ℕ → Parsed) (most : ℕ) (s : List ℕ) : Parsed → Type 0 where
-  refused : {fault : Fault} → fault.place ≤ length s → Reads read most s (Refused fault)
-  taken : {n : ℕ} → n ≤ length s → n ≤ most → ((t : List ℕ) → take n t ≡ take n s → read t ≡ Taken n) → Reads read most s (Taken n)
+  refused : {fault : Fault} → fault.place ≤ length s → Reads read most s (Err fault)
+  taken : {n : ℕ} → n ≤ length s → n ≤ most → ((t : List ℕ) → take n t ≡ take n s → read t ≡ Ok n) → Reads read most s (Ok n)
 
-pub reads_taken : (read : List ℕ → Parsed) (most : ℕ) (s : List ℕ) (n : ℕ) → Reads read most s (Taken n)
-    → (n ≤ length s) × (n ≤ most) × ((t : List ℕ) → take n t ≡ take n s → read t ≡ Taken n)
+pub reads_taken : (read : List ℕ → Parsed) (most : ℕ) (s : List ℕ) (n : ℕ) → Reads read most s (Ok n)
+    → (n ≤ length s) × (n ≤ most) × ((t : List ℕ) → take n t ≡ take n s → read t ≡ Ok n)
 reads_taken read most s n (taken a b f) = (a, b, f)
 
-pub reads_refused : (read : List ℕ → Parsed) (most : ℕ) (s : List ℕ) (fault : Fault) → Reads read most s (Refused fault) → fault.place ≤ length s
+pub reads_refused : (read : List ℕ → Parsed) (most : ℕ) (s : List ℕ) (fault : Fault) → Reads read most s (Err fault) → fault.place ≤ length s
 reads_refused read most s fault (refused h) = h
 
 pub boolean_reads : (s : List ℕ) → Reads parse_boolean 1 s (parse_boolean s)
@@ -53,12 +52,12 @@ pub string_reads : (sizeSoFar : ℕ) (s : List ℕ) → Reads (parse_text max_va
 string_reads sizeSoFar s = go (parse_text max_value_size sizeSoFar s) (text_is max_value_size sizeSoFar s)
   where
     go : (r : Parsed) → TextIs max_value_size sizeSoFar s r → Reads (parse_text max_value_size sizeSoFar) (max_value_size - sizeSoFar) s r
-    go (Refused fault) (TextIs.refused h) = refused h
-    go (Taken n) (TextIs.taken e a b u f) = taken a (omega arith) f
+    go (Err fault) (TextIs.refused h) = refused h
+    go (Ok n) (TextIs.taken e a b u f) = taken a (omega arith) f
 
 pub widen : (read : List ℕ → Parsed) (a b : ℕ) (s : List ℕ) (r : Parsed) → a ≤ b → Reads read a s r → Reads read b s r
-widen read a b s (Refused fault) h (refused x) = refused x
-widen read a b s (Taken n) h (taken x y f) = taken x (omega arith) f
+widen read a b s (Err fault) h (refused x) = refused x
+widen read a b s (Ok n) h (taken x y f) = taken x (omega arith) f
 
 abbrev pub AllReads : ℕ → (List ℕ → Parsed) → Type 0
 AllReads most read = (s : List ℕ) → Reads read most s (read s)
@@ -79,19 +78,19 @@ element_reads element sizeSoFar =
 
 -- ---- a run of elements, as a loop with a place takes it
 
-pub elements_step : (element : ℕ → List ℕ → Parsed) (count at n : ℕ) (s : List ℕ) → 0 < count → Taken n ≡ element at (drop at s)
+pub elements_step : (element : ℕ → List ℕ → Parsed) (count at n : ℕ) (s : List ℕ) → 0 < count → Ok n ≡ element at (drop at s)
     → elements element count at (drop at s) ≡ elements element (count - 1) (at + n) (drop (at + n) s)
 unfolding elements
 elements_step element zero at n s h e = absurd (omega arith)
 elements_step element (suc count) at n s h e = let l : suc count - 1 ≡ count = omega arith in rw (← e, l, drop-drop n at s)
 
-pub elements_stop : (element : ℕ → List ℕ → Parsed) (count at : ℕ) (fault : Fault) (s : List ℕ) → 0 < count → Refused fault ≡ element at s
-    → elements element count at s ≡ moved_by at (Refused fault)
+pub elements_stop : (element : ℕ → List ℕ → Parsed) (count at : ℕ) (fault : Fault) (s : List ℕ) → 0 < count → Err fault ≡ element at s
+    → elements element count at s ≡ moved_by at (Err fault)
 unfolding elements
 elements_stop element zero at fault s h e = absurd (omega arith)
 elements_stop element (suc count) at fault s h e = rw (← e)
 
-pub elements_none : (element : ℕ → List ℕ → Parsed) (count at : ℕ) (s : List ℕ) → count ≤ 0 → elements element count at s ≡ Taken at
+pub elements_none : (element : ℕ → List ℕ → Parsed) (count at : ℕ) (s : List ℕ) → count ≤ 0 → elements element count at s ≡ Ok at
 unfolding elements
 elements_none element zero at s h = refl
 elements_none element (suc count) at s h = absurd (omega arith)
@@ -99,9 +98,9 @@ elements_none element (suc count) at s h = absurd (omega arith)
 -- ---- what is known of a run's answer, where sizeSoFar bytes came before it
 
 pub data RunReads (element : ℕ → List ℕ → Parsed) (count sizeSoFar : ℕ) (s : List ℕ) : Parsed → Type 0 where
-  refused : {fault : Fault} → fault.place ≤ sizeSoFar + length s → RunReads element count sizeSoFar s (Refused fault)
-  taken : {n : ℕ} (m : ℕ) → n ≡ sizeSoFar + m → m ≤ length s → ((t : List ℕ) → take m t ≡ take m s → elements element count sizeSoFar t ≡ Taken n)
-      → RunReads element count sizeSoFar s (Taken n)
+  refused : {fault : Fault} → fault.place ≤ sizeSoFar + length s → RunReads element count sizeSoFar s (Err fault)
+  taken : {n : ℕ} (m : ℕ) → n ≡ sizeSoFar + m → m ≤ length s → ((t : List ℕ) → take m t ≡ take m s → elements element count sizeSoFar t ≡ Ok n)
+      → RunReads element count sizeSoFar s (Ok n)
 
 -- a run of elements, each of which reads as it should
 pub run_reads : (element : ℕ → List ℕ → Parsed) (most : ℕ → ℕ) → ((sizeSoFar : ℕ) → AllReads (most sizeSoFar) (element sizeSoFar))
@@ -113,39 +112,70 @@ run_reads element most h (suc count) sizeSoFar s = go (run_reads element most h 
     Rest : Type 0
     Rest = (sizeSoFar : ℕ) (s : List ℕ) → RunReads element count sizeSoFar s (elements element count sizeSoFar s)
 
-    after : (n : ℕ) → Reads (element sizeSoFar) (most sizeSoFar) s (Taken n) → (r : Parsed) → RunReads element count (sizeSoFar + n) (drop n s) r
+    after : (n : ℕ) → Reads (element sizeSoFar) (most sizeSoFar) s (Ok n) → (r : Parsed) → RunReads element count (sizeSoFar + n) (drop n s) r
         → RunReads element (suc count) sizeSoFar s r
-    after n f (Refused fault) (RunReads.refused g) =
+    after n f (Err fault) (RunReads.refused g) =
         let w = reads_taken (element sizeSoFar) (most sizeSoFar) s n f in
         RunReads.refused {fault = fault} (omega (arith, w.0, length-drop n s))
-    after n f (Taken k) (RunReads.taken m e l g) =
+    after n f (Ok k) (RunReads.taken m e l g) =
         let w = reads_taken (element sizeSoFar) (most sizeSoFar) s n f in
         RunReads.taken {n = k} (n + m) (omega arith) (omega (arith, w.0, length-drop n s))
         (λ t q. rw (w.2 t (same_front (n + m) s t q n (omega arith))) (g (drop n t) (same_rest n m s t q)))
 
     go : Rest → (r : Parsed) → Reads (element sizeSoFar) (most sizeSoFar) s r
-        → RunReads element (suc count) sizeSoFar s (and_then Refused (moved_by sizeSoFar r) (λ n. elements element count (sizeSoFar + n) (drop n s)))
-    go ih (Refused fault) (Reads.refused f) = RunReads.refused {fault = fault_at fault.number (sizeSoFar + fault.place)} (omega arith)
-    go ih (Taken n) f = after n f (elements element count (sizeSoFar + n) (drop n s)) (ih (sizeSoFar + n) (drop n s))
+        → RunReads element (suc count) sizeSoFar s (and_then Err (moved_by sizeSoFar r) (λ n. elements element count (sizeSoFar + n) (drop n s)))
+    go ih (Err fault) (Reads.refused f) = RunReads.refused {fault = fault_at fault.number (sizeSoFar + fault.place)} (omega arith)
+    go ih (Ok n) f = after n f (elements element count (sizeSoFar + n) (drop n s)) (ih (sizeSoFar + n) (drop n s))
+
+-- ---- a run of elements, one at a time, each at its place
+
+pub element_place : (element at : ℕ) (s : List ℕ) → at ≤ length s → at + (fault_of (parse_element element at (drop at s))).place ≤ length s
+element_place element at s h = go (parse_element element at (drop at s)) (element_reads element at (drop at s))
+  where
+    go : (r : Parsed) → Reads (parse_element element at) (8 + (256 - at)) (drop at s) r → at + (fault_of r).place ≤ length s
+    go (Err fault) f = omega (arith, reads_refused _ _ _ fault f, length-drop at s)
+    go (Ok n) f = omega arith
+
+pub element_stops : (element left at : ℕ) (s : List ℕ) (fault : Fault) → Err fault ≡ moved_by at (parse_element element at (drop at s)) → 0 < left
+    → Err fault ≡ elements (parse_element element) left at (drop at s)
+element_stops element left at s fault e h = go (parse_element element at (drop at s)) refl e
+  where
+    go : (r : Parsed) → r ≡ parse_element element at (drop at s) → Err fault ≡ moved_by at r → Err fault ≡ elements (parse_element element) left at (drop at s)
+    go (Err f) is moved = moved ∙ sym (elements_stop (parse_element element) left at f (drop at s) h is)
+    go (Ok n) is moved = absurd cc
+
+pub element_goes_on : (element left at n : ℕ) (s : List ℕ) → Ok n ≡ moved_by at (parse_element element at (drop at s)) → 0 < left → at ≤ length s
+    → (at + n ≤ length s) × (n ≤ 8 + (256 - at))
+    × (elements (parse_element element) left at (drop at s) ≡ elements (parse_element element) (left - 1) (at + n) (drop (at + n) s))
+element_goes_on element left at n s e h l = go (parse_element element at (drop at s)) (element_reads element at (drop at s)) refl e
+  where
+    go : (r : Parsed) → Reads (parse_element element at) (8 + (256 - at)) (drop at s) r → r ≡ parse_element element at (drop at s) → Ok n ≡ moved_by at r
+        → (at + n ≤ length s) × (n ≤ 8 + (256 - at))
+        × (elements (parse_element element) left at (drop at s) ≡ elements (parse_element element) (left - 1) (at + n) (drop (at + n) s))
+    go (Err f) reads is moved = absurd cc
+    go (Ok k) reads is moved =
+        let w = reads_taken _ _ _ k reads in
+        let k_is : n ≡ k = cc in
+        rw k_is (omega (arith, w.0, length-drop at s), omega (arith, w.1), elements_step (parse_element element) left at k s h is)
 
 -- ---- and has at most 256 bytes
 
 pub data AtMost (most : ℕ) : Parsed → Type 0 where
-  refused : {fault : Fault} → AtMost most (Refused fault)
-  taken : {n : ℕ} → n ≤ most → AtMost most (Taken n)
+  refused : {fault : Fault} → AtMost most (Err fault)
+  taken : {n : ℕ} → n ≤ most → AtMost most (Ok n)
 
 -- where each element leaves what has to hold of the count and size that are left
-run_most : (element : ℕ → List ℕ → Parsed) (Ok : ℕ → ℕ → Type 0) → ((size : ℕ) → Ok 0 size → size ≤ max_value_size)
-    → ((count size n : ℕ) (s : List ℕ) → Ok (suc count) size → element size s ≡ Taken n → Ok count (size + n))
-    → (count size : ℕ) (s : List ℕ) → Ok count size → AtMost max_value_size (elements element count size s)
+run_most : (element : ℕ → List ℕ → Parsed) (Room : ℕ → ℕ → Type 0) → ((size : ℕ) → Room 0 size → size ≤ max_value_size)
+    → ((count size n : ℕ) (s : List ℕ) → Room (suc count) size → element size s ≡ Ok n → Room count (size + n))
+    → (count size : ℕ) (s : List ℕ) → Room count size → AtMost max_value_size (elements element count size s)
 unfolding elements
-run_most element Ok h0 h1 zero size s o = AtMost.taken (h0 size o)
-run_most element Ok h0 h1 (suc count) size s o = go (run_most element Ok h0 h1 count) (element size s) refl
+run_most element Room h0 h1 zero size s o = AtMost.taken (h0 size o)
+run_most element Room h0 h1 (suc count) size s o = go (run_most element Room h0 h1 count) (element size s) refl
   where
-    go : ((size : ℕ) (s : List ℕ) → Ok count size → AtMost max_value_size (elements element count size s)) → (r : Parsed) → element size s ≡ r
-        → AtMost max_value_size (and_then Refused (moved_by size r) (λ n. elements element count (size + n) (drop n s)))
-    go ih (Refused fault) e = AtMost.refused
-    go ih (Taken n) e = ih (size + n) (drop n s) (h1 count size n s o e)
+    go : ((size : ℕ) (s : List ℕ) → Room count size → AtMost max_value_size (elements element count size s)) → (r : Parsed) → element size s ≡ r
+        → AtMost max_value_size (and_then Err (moved_by size r) (λ n. elements element count (size + n) (drop n s)))
+    go ih (Err fault) e = AtMost.refused
+    go ih (Ok n) e = ih (size + n) (drop n s) (h1 count size n s o e)
 
 pub array_most : (element count : ℕ) (s : List ℕ) → count_fits element count ≡ true → AtMost max_value_size (elements (parse_element element) count 1 s)
 unfolding count_fits parse_element pick

@@ -1,4 +1,5 @@
 -- What is true at the place that a value is refused with.
+use Rattle.std.specs.Prelude.{Err, Ok}
 use mathlib.Core.Path.{◌≡◌, refl, sym, ◌∙◌}
 use mathlib.Core.Bool.{Bool, true, false, false≢true}
 use mathlib.Core.Logic.{◌≢◌}
@@ -11,10 +12,8 @@ use lib.Seq.{drop-drop, get_or-drop}
 use borrow.Author.Tests.{leb-true, leb-false, le-leb, lt-leb, eqb-true, eqb-false}
 use Rattle.field.specs.Answer.{too_long}
 use Rattle.field.specs.Choice.{pick, demand}
-use Rattle.field.specs.Field.{fault_at, moved_by, and_then}
+use Rattle.field.specs.Field.{fault_at, moved_by, and_then, Parsed}
 use Rattle.field.specs.Place.{TellsPlace}
-use Rattle.field.specs.declared.Parsed.{Parsed}
-use Rattle.field.specs.declared.Parsed.TheVariants.{Refused, Taken}
 use Rattle.field.proofs.ChoiceLaws.{by_test}
 use Rattle.field.proofs.PlaceLaws.{Refuses, refuses_with, refused_with_lem, refuses_map}
 use Rattle.text.specs.Text.{parse_text}
@@ -82,9 +81,9 @@ module _ (t : ℕ) (s : List ℕ) where
       Rest = (at : ℕ) → ElementsLeft element s count at → Refuses (ValueFailsAt t s) (elements (parse_element element) count at (drop at s))
 
       go : Rest → (r : Parsed) → parse_element element at (drop at s) ≡ r → Refuses (From at) r
-          → Refuses (ValueFailsAt t s) (and_then Refused (moved_by at r) (λ n. elements (parse_element element) count (at + n) (drop n (drop at s))))
-      go ih (Refused fault) q (Refuses.refused h) = unfold From in Refuses.refused h
-      go ih (Taken n) q h = rw (drop-drop n at s) (ih (at + n) (ElementsLeft.behind_element e q))
+          → Refuses (ValueFailsAt t s) (and_then Err (moved_by at r) (λ n. elements (parse_element element) count (at + n) (drop n (drop at s))))
+      go ih (Err fault) q (Refuses.refused h) = unfold From in Refuses.refused h
+      go ih (Ok n) q h = rw (drop-drop n at s) (ih (at + n) (ElementsLeft.behind_element e q))
 
   array_refuses : (element : ℕ) → element ≤ string → t ≡ array_of + element → Refuses (ValueFailsAt t s) (parse_array element s)
   unfolding parse_array count_fits pick
@@ -132,9 +131,9 @@ lone_refuses t s = go (parse_value t s) refl (value_refuses t s)
     P = Refuses (LoneFailsAt t s)
 
     go : (r : Parsed) → parse_value t s ≡ r → Refuses (ValueFailsAt t s) r
-        → P (and_then Refused r (λ n. demand (eqb n (length s)) (Refused (fault_at too_long n)) (Taken n)))
-    go (Refused fault) e (Refuses.refused h) = Refuses.refused (LoneFailsAt.in_value h)
-    go (Taken n) e h =
+        → P (and_then Err r (λ n. demand (eqb n (length s)) (Err (fault_at too_long n)) (Ok n)))
+    go (Err fault) e (Refuses.refused h) = Refuses.refused (LoneFailsAt.in_value h)
+    go (Ok n) e h =
         by_test P _ _ _ (λ _. Refuses.taken)
         (λ q. refuses_with (LoneFailsAt t s) 10 n (LoneFailsAt.left_over e (omega (arith, value_fits t s n e, eqb-false n (length s) q))))
 
@@ -187,8 +186,8 @@ module _ (t : ℕ) (s : List ℕ) where
       let less : t - 16 ≡ element = omega (arith, is) in
       rw (lt-leb t string (omega (arith, is)), known, less)
 
-  element_failing : (element start number place : ℕ) → known_type t ≡ true → ElementAt t s element start → parse_element element start (drop start s) ≡ Refused (fault_at number place)
-      → parse_value t s ≡ Refused (fault_at number (start + place))
+  element_failing : (element start number place : ℕ) → known_type t ≡ true → ElementAt t s element start → parse_element element start (drop start s) ≡ Err (fault_at number place)
+      → parse_value t s ≡ Err (fault_at number (start + place))
   unfolding parse_value parse_array elements pick
   element_failing element start number place known (ElementAt.lone l) refused =
       let here : 0 + place ≡ place = omega arith in
@@ -197,7 +196,7 @@ module _ (t : ℕ) (s : List ℕ) where
       let r = read_on element (suc left) start e in
       array_is element is known ∙ rw (le-leb 1 (length s) r.there, r.fits, r.same, refused)
 
-  value_fails_so : (number place : ℕ) → known_type t ≡ true → ValueFailsAt t s number place → parse_value t s ≡ Refused (fault_at number place)
+  value_fails_so : (number place : ℕ) → known_type t ≡ true → ValueFailsAt t s number place → parse_value t s ≡ Err (fault_at number place)
   unfolding parse_element parse_boolean parse_double parse_array count_fits pick
   value_fails_so number place known (ValueFailsAt.unknown_type_case k) = absurd (false≢true (sym k ∙ known))
   value_fails_so number place known (ValueFailsAt.not_boolean {place = start} e l b) =

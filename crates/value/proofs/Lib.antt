@@ -1,3 +1,4 @@
 pub mod ElementLaws
 pub mod ValueLaws
 pub mod FailsLaws
+pub mod TypeLaws

@@ -1,17 +1,16 @@
 -- "The reading of a value shall report, with 7 to 10, the place of the first byte of the field that failed"; "with 1 the first field not wholly there".
 -- Proved in proofs/FailsLaws.antt.
-use Rattle.std.specs.Prelude.{ℕ, suc, ◌+◌, ◌*◌, ◌≤◌, ◌<◌, true, false, List, ◌≡◌, length, drop, get_or}
+use Rattle.std.specs.Prelude.{ℕ, suc, ◌+◌, ◌*◌, ◌≤◌, ◌<◌, true, false, List, ◌≡◌, length, drop, get_or, Err, Ok}
 use Rattle.field.specs.Answer.{incomplete, unknown_type, bad_boolean, too_long}
 use Rattle.field.specs.Field.{fault_at}
 use Rattle.field.specs.declared.Fault.{Fault}
-use Rattle.field.specs.declared.Parsed.TheVariants.{Refused, Taken}
 use Rattle.text.specs.Fails.{TextFailsAt}
 use Rattle.value.specs.Value.{boolean, double, string, array_of, double_array, known_type, max_value_size, boolean_size, true_byte, double_size, count_size, count_fits, parse_element, parse_value, parse_lone}
 
 -- "count (1) of elements and the elements in order": so many are left at a place of an array, and all before it are whole
 pub data ElementsLeft (element : ℕ) (s : List ℕ) : (left place : ℕ) → Type 0 where
   behind_count : count_size ≤ length s → count_fits element (get_or s 0 0) ≡ true → ElementsLeft element s (get_or s 0 0) count_size
-  behind_element : {left place n : ℕ} → ElementsLeft element s (suc left) place → parse_element element place (drop place s) ≡ Taken n
+  behind_element : {left place n : ℕ} → ElementsLeft element s (suc left) place → parse_element element place (drop place s) ≡ Ok n
       → ElementsLeft element s left (place + n)
 
 -- an element of a value begins at a place; a lone Boolean, Double or String is its own
@@ -36,17 +35,17 @@ pub data ValueFailsAt (t : ℕ) (s : List ℕ) : (number place : ℕ) → Type 0
   cut_count : (element : ℕ) → t ≡ array_of + element → length s < count_size → ValueFailsAt t s incomplete 0
 
 abbrev pub ValueFails : Type 0
-ValueFails = (t : ℕ) (s : List ℕ) (fault : Fault) → parse_value t s ≡ Refused fault → ValueFailsAt t s fault.number fault.place
+ValueFails = (t : ℕ) (s : List ℕ) (fault : Fault) → parse_value t s ≡ Err fault → ValueFailsAt t s fault.number fault.place
 
 -- and the other way, of a known type
 abbrev pub ValueFailing : Type 0
-ValueFailing = (t : ℕ) (s : List ℕ) (number place : ℕ) → known_type t ≡ true → ValueFailsAt t s number place → parse_value t s ≡ Refused (fault_at number place)
+ValueFailing = (t : ℕ) (s : List ℕ) (number place : ℕ) → known_type t ≡ true → ValueFailsAt t s number place → parse_value t s ≡ Err (fault_at number place)
 
 -- the same of a value that is lent by itself
 pub data LoneFailsAt (t : ℕ) (s : List ℕ) : (number place : ℕ) → Type 0 where
   in_value : {number place : ℕ} → ValueFailsAt t s number place → LoneFailsAt t s number place
   -- "for bytes left over, the first of them"
-  left_over : {n : ℕ} → parse_value t s ≡ Taken n → n < length s → LoneFailsAt t s too_long n
+  left_over : {n : ℕ} → parse_value t s ≡ Ok n → n < length s → LoneFailsAt t s too_long n
 
 abbrev pub LoneFails : Type 0
-LoneFails = (t : ℕ) (s : List ℕ) (fault : Fault) → parse_lone t s ≡ Refused fault → LoneFailsAt t s fault.number fault.place
+LoneFails = (t : ℕ) (s : List ℕ) (fault : Fault) → parse_lone t s ≡ Err fault → LoneFailsAt t s fault.number fault.place

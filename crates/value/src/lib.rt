@@ -2,21 +2,52 @@
 #![tactic(auto)]
 
 ghost use Rattle.std.specs.Prelude.{◌≡◌, ◌≤◌, length, drop};
+ghost use Rattle.field.specs.Field.{moved_by};
 ghost use Rattle.value.specs.Value.{known_type, parse_boolean, parse_double, parse_element};
 ghost use Rattle.value.specs.Value.{count_size, count_fits, elements, parse_array, parse_value, parse_lone};
+ghost use Rattle.value.specs.Types.{element_code, IsTypeOf};
 
-use field::{BAD_BOOLEAN, INCOMPLETE, Octet, Parsed, TOO_LONG, UNKNOWN_TYPE, fault_at};
+use field::{Fault, Refusal};
 
-// Types: a Boolean, a Double, a String, and the first and last of the arrays of these.
+// What a single value is, and what the elements of an array are.
+#[derive(Clone, Copy, PartialEq, Eq)]
+pub enum Element {
+    Boolean,
+    Double,
+    String,
+}
+
+// The six types of values.
+#[derive(Clone, Copy, PartialEq, Eq)]
+pub enum ValueType {
+    Single(Element),
+    Array(Element),
+}
+
+impl TryFrom<u8> for ValueType {
+    type Error = Refusal;
+
+    ghost try_from_gives = { IsTypeOf };
+
+    fn try_from(code: u8) -> Result<ValueType, Refusal> {
+        match code {
+            0x00 => Ok(ValueType::Single(Element::Boolean)),
+            0x01 => Ok(ValueType::Single(Element::Double)),
+            0x02 => Ok(ValueType::Single(Element::String)),
+            0x10 => Ok(ValueType::Array(Element::Boolean)),
+            0x11 => Ok(ValueType::Array(Element::Double)),
+            0x12 => Ok(ValueType::Array(Element::String)),
+            _ => Err(Refusal::UnknownType),
+        }
+    }
+}
+
+// The codes of a Boolean and a Double, and of an array of Booleans.
 pub const BOOLEAN: u8 = 0x00;
 
 pub const DOUBLE: u8 = 0x01;
 
-pub const STRING: u8 = 0x02;
-
 pub const BOOLEAN_ARRAY: u8 = 0x10;
-
-pub const STRING_ARRAY: u8 = 0x12;
 
 // A Boolean's byte is 0, or this.
 pub const TRUE: u8 = 1;
@@ -31,128 +62,110 @@ pub const DOUBLE_SIZE: usize = 8;
 
 pub const COUNT_SIZE: usize = 1;
 
+#[tactic(auto, using(crate::proofs::TypeLaws::known_is_ok))]
 pub fn known_type(t: u8) -> bool
     ensures { result ≡ known_type t }
 {
-    if t <= STRING {
-        return true;
-    }
-    if t < BOOLEAN_ARRAY {
-        return false;
-    }
-    t <= STRING_ARRAY
+    ValueType::try_from(t).is_ok()
 }
 
-fn read_boolean(s: &[u8]) -> Parsed
+#[tactic(auto, unfolding(crate::specs::Value::parse_boolean, field::specs::Field::octet_at, field::specs::Choice::pick))]
+fn read_boolean(s: &[u8]) -> Result<usize, Fault>
     ensures { result ≡ parse_boolean s.now }
 {
-    let Octet::There(b) = field::read_u8(s, 0) else {
-        return Parsed::Refused(fault_at(INCOMPLETE, 0));
-    };
+    let b = field::read_u8(s, 0)?;
     if TRUE < b {
-        return Parsed::Refused(fault_at(BAD_BOOLEAN, 0));
+        return Err(Fault::new(Refusal::BadBoolean, 0));
     }
-    Parsed::Taken(BOOLEAN_SIZE)
+    Ok(BOOLEAN_SIZE)
 }
 
-fn read_double(s: &[u8]) -> Parsed
+#[tactic(auto, unfolding(crate::specs::Value::parse_double, field::specs::Choice::pick))]
+fn read_double(s: &[u8]) -> Result<usize, Fault>
     ensures { result ≡ parse_double s.now }
 {
     if s.len() < DOUBLE_SIZE {
-        return Parsed::Refused(fault_at(INCOMPLETE, 0));
+        return Err(Fault::new(Refusal::Incomplete, 0));
     }
-    Parsed::Taken(DOUBLE_SIZE)
+    Ok(DOUBLE_SIZE)
 }
 
 // One value of an element type, where `size_so_far` bytes of its array came before it.
-fn read_element(element: u8, size_so_far: u16, s: &[u8]) -> Parsed
-    ensures { result ≡ parse_element element size_so_far s.now }
+#[tactic(auto, unfolding(crate::specs::Value::parse_element, field::specs::Choice::pick))]
+fn read_element(element: Element, size_so_far: u16, s: &[u8]) -> Result<usize, Fault>
+    ensures { result ≡ parse_element (element_code element) size_so_far s.now }
 {
-    if element == BOOLEAN {
-        return read_boolean(s);
+    match element {
+        Element::Boolean => read_boolean(s),
+        Element::Double => read_double(s),
+        Element::String => text::read_text(s, size_so_far, MAX_VALUE_SIZE),
     }
-    if element == DOUBLE {
-        return read_double(s);
-    }
-    text::read_text(s, size_so_far, MAX_VALUE_SIZE)
 }
 
 // Whether so many elements are within the limit. A String array's elements are looked at one by one.
-fn count_fits(element: u8, count: u8) -> bool
-    ensures { result ≡ count_fits element count }
+#[tactic(auto, unfolding(crate::specs::Value::count_fits, field::specs::Choice::pick))]
+fn count_fits(element: Element, count: u8) -> bool
+    ensures { result ≡ count_fits (element_code element) count }
 {
-    if element == BOOLEAN {
-        return true;
+    match element {
+        Element::Boolean | Element::String => true,
+        Element::Double => {
+            COUNT_SIZE + DOUBLE_SIZE * usize::from(count) <= usize::from(MAX_VALUE_SIZE)
+        }
     }
-    if element == DOUBLE {
-        return COUNT_SIZE + DOUBLE_SIZE * (count as usize) <= (MAX_VALUE_SIZE as usize);
-    }
-    true
+}
+
+// The same at a place of its array, where a refusal's place is counted from the array's start.
+fn element_at(element: Element, s: &[u8], at: usize) -> Result<usize, Fault>
+    requires { (at ≤ length s.now) × (at ≤ 65535) }
+    ensures { result ≡ moved_by at (parse_element (element_code element) at (drop at s.now)) }
+{
+    field::moved(read_element(element, at as u16, &s[at..]), at)
 }
 
 // So many elements, behind an array's count.
-fn read_elements(element: u8, count: u8, s: &[u8]) -> Parsed
+fn read_elements(element: Element, count: u8, s: &[u8]) -> Result<usize, Fault>
     requires { count_size ≤ length s.now }
-    ensures { result ≡ elements (parse_element element) count count_size (drop count_size s.now) }
+    ensures { result
+        ≡ elements (parse_element (element_code element)) count count_size (drop count_size s.now) }
 {
     let mut at = COUNT_SIZE;
-    let mut left = count;
-    while 0 < left {
-        let one = read_element(element, at as u16, &s[at..]);
-        let Parsed::Taken(n) = one else {
-            return field::moved(one, at);
-        };
-        at += n;
-        left -= 1;
+    for _ in 0..count {
+        at += element_at(element, s, at)?;
     }
-    Parsed::Taken(at)
+    Ok(at)
 }
 
-fn read_array(element: u8, s: &[u8]) -> Parsed
-    ensures { result ≡ parse_array element s.now }
+#[tactic(auto, using(field::proofs::FieldLaws::octet_there), unfolding(crate::specs::Value::parse_array, field::specs::Field::octet_at, field::specs::Choice::pick))]
+fn read_array(element: Element, s: &[u8]) -> Result<usize, Fault>
+    ensures { result ≡ parse_array (element_code element) s.now }
 {
-    let Octet::There(count) = field::read_u8(s, 0) else {
-        return Parsed::Refused(fault_at(INCOMPLETE, 0));
-    };
+    let count = field::read_u8(s, 0)?;
     if !count_fits(element, count) {
-        return Parsed::Refused(fault_at(TOO_LONG, 0));
+        return Err(Fault::new(Refusal::TooLong, 0));
     }
     read_elements(element, count, s)
 }
 
-// A reader's answer, handed on in its parts: copied whole, it goes through memory in pieces that overlap, and the processor waits.
-fn in_parts(p: Parsed) -> Parsed
-    ensures { result ≡ p }
-{
-    match p {
-        Parsed::Refused(fault) => Parsed::Refused(fault_at(fault.number, fault.place)),
-        Parsed::Taken(n) => Parsed::Taken(n),
-    }
-}
-
 // The value of a type at the start of the bytes. They go on as a part of themselves (docs/DECISIONS.md, Speed).
-pub fn read_value(t: u8, s: &[u8]) -> Parsed
+pub fn read_value(t: u8, s: &[u8]) -> Result<usize, Fault>
     ensures { result ≡ parse_value t s.now }
 {
-    if t <= STRING {
-        return in_parts(read_element(t, 0, &s[0..]));
+    match ValueType::try_from(t) {
+        Ok(ValueType::Single(element)) => read_element(element, 0, &s[0..]),
+        Ok(ValueType::Array(element)) => read_array(element, &s[0..]),
+        Err(refusal) => Err(Fault::new(refusal, 0)),
     }
-    if !known_type(t) {
-        return Parsed::Refused(fault_at(UNKNOWN_TYPE, 0));
-    }
-    read_array(t - BOOLEAN_ARRAY, &s[0..])
 }
 
 // A lone value: it must fill its bytes.
-pub fn read_lone(t: u8, s: &[u8]) -> Parsed
+#[tactic(auto, unfolding(crate::specs::Value::parse_lone, field::specs::Choice::pick))]
+pub fn read_lone(t: u8, s: &[u8]) -> Result<usize, Fault>
     ensures { result ≡ parse_lone t s.now }
 {
-    let value = read_value(t, s);
-    let Parsed::Taken(n) = value else {
-        return value;
-    };
+    let n = read_value(t, s)?;
     if n != s.len() {
-        return Parsed::Refused(fault_at(TOO_LONG, n));
+        return Err(Fault::new(Refusal::TooLong, n));
     }
-    Parsed::Taken(n)
+    Ok(n)
 }

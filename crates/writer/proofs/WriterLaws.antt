@@ -1,4 +1,5 @@
 -- Laws of the checks, and of what is answered and written for them.
+use Rattle.std.specs.Prelude.{Err, Ok}
 use mathlib.Core.Path.{◌≡◌, refl, ◌∙◌}
 use mathlib.Core.Bool.{true}
 use mathlib.Core.List.{List}
@@ -9,10 +10,8 @@ use borrow.Author.Tests.{leb-true, le-leb, lt-leb}
 use Rattle.field.specs.Answer.{not_utf8, too_long, output_too_short, RefusalNumber}
 use Rattle.field.specs.Choice.{pick}
 use Rattle.field.specs.Octets.{overwrite_at}
-use Rattle.field.specs.Field.{fault_at, and_then}
+use Rattle.field.specs.Field.{fault_at, and_then, Parsed}
 use Rattle.field.specs.declared.Fault.{Fault}
-use Rattle.field.specs.declared.Parsed.{Parsed}
-use Rattle.field.specs.declared.Parsed.TheVariants.{Refused, Taken}
 use Rattle.field.proofs.ChoiceLaws.{by_test}
 use Rattle.answer.specs.Answers.{bare_answer, refused_answer, done_answer}
 use Rattle.utf8.specs.Utf8.{is_utf8}
@@ -26,8 +25,8 @@ use Rattle.writer.specs.Writer.{Fields, given_entry, check_name, Checked, check_
 -- ---- a name and a value
 
 pub data NameIs (name : List ℕ) : Parsed → Type 0 where
-  refused : {fault : Fault} → RefusalNumber fault.number → NameIs name (Refused fault)
-  taken : {n : ℕ} → n ≡ length name → length name ≤ 64 → is_utf8 name ≡ true → NameIs name (Taken n)
+  refused : {fault : Fault} → RefusalNumber fault.number → NameIs name (Err fault)
+  taken : {n : ℕ} → n ≡ length name → length name ≤ 64 → is_utf8 name ≡ true → NameIs name (Ok n)
 
 pub name_is : (name : List ℕ) → NameIs name (check_name name)
 unfolding check_name
@@ -35,19 +34,19 @@ name_is name =
     by_test (NameIs name) _ _ _ (λ h. by_test (NameIs name) _ _ _ (λ u. NameIs.taken refl (leb-true _ _ h) u) (λ _. no not_utf8 (omega arith) (omega arith)))
     (λ _. no too_long (omega arith) (omega arith))
   where
-    no : (number : ℕ) → 1 ≤ number → number ≤ 14 → NameIs name (Refused (fault_at number 0))
+    no : (number : ℕ) → 1 ≤ number → number ≤ 14 → NameIs name (Err (fault_at number 0))
     no number a b = NameIs.refused (refusal_number number a b)
 
-pub name_taken_lem : (name : List ℕ) (n : ℕ) → check_name name ≡ Taken n → (n ≡ length name) × (length name ≤ 64)
+pub name_taken_lem : (name : List ℕ) (n : ℕ) → check_name name ≡ Ok n → (n ≡ length name) × (length name ≤ 64)
 name_taken_lem name n e = go (rw e at (name_is name))
   where
-    go : NameIs name (Taken n) → (n ≡ length name) × (length name ≤ 64)
+    go : NameIs name (Ok n) → (n ≡ length name) × (length name ≤ 64)
     go (NameIs.taken a b c) = (a, b)
 
-pub lone_taken_is : (t : ℕ) (v : List ℕ) (n : ℕ) → parse_lone t v ≡ Taken n → (n ≡ length v) × (n ≤ 256)
+pub lone_taken_is : (t : ℕ) (v : List ℕ) (n : ℕ) → parse_lone t v ≡ Ok n → (n ≡ length v) × (n ≤ 256)
 lone_taken_is t v n e = go (rw e at (lone_is t v))
   where
-    go : LoneIs t v (Taken n) → (n ≡ length v) × (n ≤ 256)
+    go : LoneIs t v (Ok n) → (n ≡ length v) × (n ≤ 256)
     go (LoneIs.taken a w) = (a, omega (arith, value_small t v (length v) w))
 
 -- ---- what the checks allow
@@ -63,17 +62,17 @@ assignment_check t id e = go (check_name e.name) (name_is e.name) (parse_lone e.
   where
     go : (p : Parsed) → NameIs e.name p → (q : Parsed) → LoneIs e.type e.value q → RefusedRightly q
         → CheckIs t (assignment id e) (and_then Checked.refused p (λ _. and_then Checked.refused q (λ _. Checked.allowed (assignment id e))))
-    go (Refused fault) (NameIs.refused k) q g r = CheckIs.refused k
-    go (Taken n) f (Refused fault) g (RefusedRightly.refused k) = CheckIs.refused k
-    go (Taken n) (NameIs.taken a b u) (Taken v) (LoneIs.taken l w) r = CheckIs.allowed {x = assignment id e} (record { name_fits = b; name_text = u; value_whole = w })
+    go (Err fault) (NameIs.refused k) q g r = CheckIs.refused k
+    go (Ok n) f (Err fault) g (RefusedRightly.refused k) = CheckIs.refused k
+    go (Ok n) (NameIs.taken a b u) (Ok v) (LoneIs.taken l w) r = CheckIs.allowed {x = assignment id e} (record { name_fits = b; name_text = u; value_whole = w })
 
 pub update_check : (id number t : ℕ) (v : List ℕ) → CheckIs t (update id number v) (check_update id number t v)
 unfolding check_update
 update_check id number t v = go (parse_lone t v) (lone_is t v) (lone_rightly t v)
   where
     go : (q : Parsed) → LoneIs t v q → RefusedRightly q → CheckIs t (update id number v) (and_then Checked.refused q (λ _. Checked.allowed (update id number v)))
-    go (Refused fault) g (RefusedRightly.refused k) = CheckIs.refused k
-    go (Taken n) (LoneIs.taken l w) r = CheckIs.allowed w
+    go (Err fault) g (RefusedRightly.refused k) = CheckIs.refused k
+    go (Ok n) (LoneIs.taken l w) r = CheckIs.allowed w
 
 -- what obeys the rules is allowed
 pub assignment_allowed : (id : ℕ) (e : Entry) → WellFormed e → check_assignment id e ≡ Checked.allowed (assignment id e)
@@ -145,27 +144,27 @@ module _ (f : Fields) (room : ℕ) (r : Ready room (check f)) where
 -- ---- what is answered and written, by what the message needs
 
 module _ (c : Checked) (out : List ℕ) where
-  pub needs_refused : (fault : Fault) → Refused fault ≡ needed_for c → written (refused_answer fault) out ≡ write_with_place c out
+  pub needs_refused : (fault : Fault) → Err fault ≡ needed_for c → written (refused_answer fault) out ≡ write_with_place c out
   needs_refused fault e = go c e
     where
-      go : (c : Checked) → Refused fault ≡ needed_for c → written (refused_answer fault) out ≡ write_with_place c out
+      go : (c : Checked) → Err fault ≡ needed_for c → written (refused_answer fault) out ≡ write_with_place c out
       go (Checked.refused other) q = let same : fault ≡ other = cc in rw same
       go (Checked.allowed m) q = let z : ◌≡◌ {A = ℕ} 0 1 = cc in absurd (omega arith)
 
-  pub needs_more : (n : ℕ) → Taken n ≡ needed_for c → length out < n → written (bare_answer output_too_short) out ≡ write_with_place c out
+  pub needs_more : (n : ℕ) → Ok n ≡ needed_for c → length out < n → written (bare_answer output_too_short) out ≡ write_with_place c out
   unfolding pick
   needs_more n e h = go c e
     where
-      go : (c : Checked) → Taken n ≡ needed_for c → written (bare_answer output_too_short) out ≡ write_with_place c out
+      go : (c : Checked) → Ok n ≡ needed_for c → written (bare_answer output_too_short) out ≡ write_with_place c out
       go (Checked.refused fault) q = let z : ◌≡◌ {A = ℕ} 0 1 = cc in absurd (omega arith)
       go (Checked.allowed m) q =
           let n_is : n ≡ length (layout m) = cc in
           rw (lt-leb (length (layout m)) (length out) (omega arith))
 
-  pub needs_room : (n : ℕ) → Taken n ≡ needed_for c → n ≤ length out → Ready (length out) c
+  pub needs_room : (n : ℕ) → Ok n ≡ needed_for c → n ≤ length out → Ready (length out) c
   needs_room n e h = go c e
     where
-      go : (c : Checked) → Taken n ≡ needed_for c → Ready (length out) c
+      go : (c : Checked) → Ok n ≡ needed_for c → Ready (length out) c
       go (Checked.refused fault) q = let z : ◌≡◌ {A = ℕ} 0 1 = cc in absurd (omega arith)
       go (Checked.allowed m) q = let n_is : n ≡ length (layout m) = cc in ready {m = m} (omega arith)
 

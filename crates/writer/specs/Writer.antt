@@ -1,13 +1,11 @@
 -- "The message writer takes fields and checks kind (4), name, type, value, room (12); fields that the kind lacks are not looked at."
-use Rattle.std.specs.Prelude.{ℕ, ◌≤◌, List, [], length, leb, eqb}
+use Rattle.std.specs.Prelude.{ℕ, ◌≤◌, List, [], length, leb, eqb, Err, Ok}
 use Rattle.field.specs.Answer.{done, unknown_kind, not_utf8, too_long, output_too_short}
 use Rattle.field.specs.Choice.{pick, demand}
 use Rattle.field.specs.Octets.{overwrite_at}
-use Rattle.field.specs.Field.{fault_at, and_then}
+use Rattle.field.specs.Field.{fault_at, and_then, Parsed}
 use Rattle.field.specs.Place.{reported_place, WithPlace}
 use Rattle.field.specs.declared.Fault.{Fault}
-use Rattle.field.specs.declared.Parsed.{Parsed}
-use Rattle.field.specs.declared.Parsed.TheVariants.{Refused, Taken}
 use Rattle.answer.specs.declared.Answer.{Answer}
 use Rattle.utf8.specs.Utf8.{is_utf8}
 use Rattle.value.specs.Value.{parse_lone}
@@ -35,9 +33,9 @@ given_entry f = record { name = f.name; type = f.type; number = f.number; value 
 -- "A local name is lent without a prefix": 10, then 9
 unfoldable pub check_name : List ℕ → Parsed
 check_name name =
-    demand (leb (length name) max_name_length) (Refused (fault_at too_long 0))
-    (demand (is_utf8 name) (Refused (fault_at not_utf8 0))
-    (Taken (length name)))
+    demand (leb (length name) max_name_length) (Err (fault_at too_long 0))
+    (demand (is_utf8 name) (Err (fault_at not_utf8 0))
+    (Ok (length name)))
 
 -- the fields' message, or the refusal of the first check that fails
 pub data Checked : Type 0 where
@@ -71,8 +69,8 @@ check f = check_by_kind f.kind f
 
 -- how many bytes the message needs, or the refusal
 abbrev pub needed_for : Checked → Parsed
-needed_for (refused fault) = Refused fault
-needed_for (allowed m) = Taken (length (layout m))
+needed_for (refused fault) = Err fault
+needed_for (allowed m) = Ok (length (layout m))
 
 abbrev pub bytes_of : Checked → List ℕ
 bytes_of (refused fault) = []

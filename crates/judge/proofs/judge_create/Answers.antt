@@ -1,9 +1,9 @@
 -- `judge_create` decides as the definition does: name, value, the search over names, the limit.
+use Rattle.std.specs.Prelude.{Ok}
 use mathlib.Core.Path.{◌≡◌, refl, sym, ◌∙◌}
 use native.Mathlib.Omega.{arith}
 use borrow.Author.Tests.{lt-ltb, le-ltb}
 use Rattle.field.specs.Choice.{pick}
-use Rattle.field.specs.declared.Parsed.TheVariants.{Taken}
 use Rattle.value.specs.Value.{parse_lone}
 use Rattle.writer.specs.Writer.{check_name}
 use Rattle.writer.proofs.WriterLaws.{name_taken_lem, lone_taken_is}
@@ -24,7 +24,7 @@ returns-in_default c =
 pub returns-in_default-checked_value : goal.returns-in_default-checked_value
 unfolding judge judge_create
 returns-in_default-checked_value c =
-    let name_is : check_name c.args.name.now ≡ Taken c.in-Taken.field-0 = sym c.check_name-checked_name.ensures ∙ c.in-Taken.is in
+    let name_is : check_name c.args.name.now ≡ Ok c.in-Taken.field-0 = sym c.check_name-checked_name.ensures ∙ c.in-Taken.is in
     λ marks.
     rw (c.fault_of-in_default-checked_value.ensures, name_is, ← c.read_lone-checked_value.ensures, c.in_default-checked_value.is) (create_refusal _ _ _ _ _)
 
@@ -34,8 +34,8 @@ find_name-requires c = sound_named max_entries ((table_memory c.args.heads.now c
 pub returns-then-find_name-n : goal.returns-then-find_name-n
 unfolding judge judge_create pick
 returns-then-find_name-n c =
-    let value_is : parse_lone c.args.type_code c.args.value.now ≡ Taken c.in-Taken-checked_value.field-0 = sym c.read_lone-checked_value.ensures ∙ c.in-Taken-checked_value.is in
-    let name_is : check_name c.args.name.now ≡ Taken c.in-Taken.field-0 = sym c.check_name-checked_name.ensures ∙ c.in-Taken.is in
+    let value_is : parse_lone c.args.type_code c.args.value.now ≡ Ok c.in-Taken-checked_value.field-0 = sym c.read_lone-checked_value.ensures ∙ c.in-Taken-checked_value.is in
+    let name_is : check_name c.args.name.now ≡ Ok c.in-Taken.field-0 = sym c.check_name-checked_name.ensures ∙ c.in-Taken.is in
     λ marks.
     rw (c.fault_at.ensures, name_is, value_is, found_held ((table_memory c.args.heads.now c.args.bytes.now c.args.count)) c.args.name.now c.find_name.result c.find_name.ensures (omega arith))
     (create_refusal _ _ _ _ _)
@@ -43,8 +43,8 @@ returns-then-find_name-n c =
 pub returns-then-n-ge-MAX_ENTRIES : goal.returns-then-n-ge-MAX_ENTRIES
 unfolding judge judge_create pick
 returns-then-n-ge-MAX_ENTRIES c =
-    let value_is : parse_lone c.args.type_code c.args.value.now ≡ Taken c.in-Taken-checked_value.field-0 = sym c.read_lone-checked_value.ensures ∙ c.in-Taken-checked_value.is in
-    let name_is : check_name c.args.name.now ≡ Taken c.in-Taken.field-0 = sym c.check_name-checked_name.ensures ∙ c.in-Taken.is in
+    let value_is : parse_lone c.args.type_code c.args.value.now ≡ Ok c.in-Taken-checked_value.field-0 = sym c.read_lone-checked_value.ensures ∙ c.in-Taken-checked_value.is in
+    let name_is : check_name c.args.name.now ≡ Ok c.in-Taken.field-0 = sym c.check_name-checked_name.ensures ∙ c.in-Taken.is in
     λ marks.
     rw (c.fault_at-then-n-ge-MAX_ENTRIES.ensures, name_is, value_is, not_found ((table_memory c.args.heads.now c.args.bytes.now c.args.count)) c.args.name.now c.find_name.result c.find_name.ensures (omega arith), length_entries ((table_memory c.args.heads.now c.args.bytes.now c.args.count)), le-ltb c.args.count max_entries c.if-n-ge-MAX_ENTRIES.true)
     (create_refusal _ _ _ _ _)
@@ -52,8 +52,8 @@ returns-then-n-ge-MAX_ENTRIES c =
 pub returns : goal.returns
 unfolding judge judge_create pick
 returns c =
-    let value_is : parse_lone c.args.type_code c.args.value.now ≡ Taken c.in-Taken-checked_value.field-0 = sym c.read_lone-checked_value.ensures ∙ c.in-Taken-checked_value.is in
-    let name_is : check_name c.args.name.now ≡ Taken c.in-Taken.field-0 = sym c.check_name-checked_name.ensures ∙ c.in-Taken.is in
+    let value_is : parse_lone c.args.type_code c.args.value.now ≡ Ok c.in-Taken-checked_value.field-0 = sym c.read_lone-checked_value.ensures ∙ c.in-Taken-checked_value.is in
+    let name_is : check_name c.args.name.now ≡ Ok c.in-Taken.field-0 = sym c.check_name-checked_name.ensures ∙ c.in-Taken.is in
     λ marks.
     let w = lone_taken_is c.args.type_code c.args.value.now c.in-Taken-checked_value.field-0 (value_is) in
     rw (name_is, value_is, not_found ((table_memory c.args.heads.now c.args.bytes.now c.args.count)) c.args.name.now c.find_name.result c.find_name.ensures (omega arith), length_entries ((table_memory c.args.heads.now c.args.bytes.now c.args.count)), lt-ltb c.args.count max_entries c.if-n-ge-MAX_ENTRIES.false)

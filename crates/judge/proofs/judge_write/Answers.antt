@@ -1,4 +1,5 @@
 -- `judge_write` decides as the definition does, by what the accessors read of the held entry.
+use Rattle.std.specs.Prelude.{Ok}
 use mathlib.Core.Path.{◌≡◌, refl, sym, ap, ◌∙◌}
 use mathlib.Core.List.{List}
 use Prim.Native.Nat.{ℕ}
@@ -7,7 +8,6 @@ use lib.ListN.{length}
 use borrow.Author.Tests.{lt-ltb, le-ltb}
 use Rattle.field.specs.Choice.{pick}
 use Rattle.field.specs.Field.{and_then}
-use Rattle.field.specs.declared.Parsed.TheVariants.{Taken}
 use Rattle.sequence.specs.SequenceNumber.{next_number}
 use Rattle.value.specs.Value.{parse_lone, IsValue}
 use Rattle.value.proofs.ValueLaws.{value_small}
@@ -56,7 +56,7 @@ unfolding entry_at judge judge_write pick
 returns-then-same_value c =
     let judged : Verdict = and_then refuse (parse_lone ((entry_at c.args.heads.now c.args.bytes.now c.args.id)).type c.args.value.now) (λ _. pick (equal_values ((entry_at c.args.heads.now c.args.bytes.now c.args.id)).type ((entry_at c.args.heads.now c.args.bytes.now c.args.id)).value c.args.value.now) (ignore 0) (store_update c.args.id (next_number ((entry_at c.args.heads.now c.args.bytes.now c.args.id)).number) c.args.value.now 0 all_greeted)) in
     let judged_is : judge_write (entries_of ((table_memory c.args.heads.now c.args.bytes.now c.args.count))) c.args.id c.args.value.now ≡ judged = rw (length_entries ((table_memory c.args.heads.now c.args.bytes.now c.args.count)), lt-ltb c.args.id c.args.count c.if-id-count.false, entry_get ((table_memory c.args.heads.now c.args.bytes.now c.args.count)) c.args.id default_entry c.if-id-count.false) in
-    let value_is : parse_lone ((entry_at c.args.heads.now c.args.bytes.now c.args.id)).type c.args.value.now ≡ Taken c.in-Taken.field-0 = rw (c.type_of-type_code.ensures c.args.bytes.now) at (sym c.read_lone-checked_value.ensures ∙ c.in-Taken.is) in
+    let value_is : parse_lone ((entry_at c.args.heads.now c.args.bytes.now c.args.id)).type c.args.value.now ≡ Ok c.in-Taken.field-0 = rw (c.type_of-type_code.ensures c.args.bytes.now) at (sym c.read_lone-checked_value.ensures ∙ c.in-Taken.is) in
     let compared : c.same_value.result ≡ equal_values ((entry_at c.args.heads.now c.args.bytes.now c.args.id)).type ((entry_at c.args.heads.now c.args.bytes.now c.args.id)).value c.args.value.now = c.same_value.ensures ((entry_at c.args.heads.now c.args.bytes.now c.args.id)).type ∙ ap (λ (v : List ℕ). equal_values ((entry_at c.args.heads.now c.args.bytes.now c.args.id)).type v c.args.value.now) c.value_of.ensures in
     λ marks.
     rw (judged_is, value_is, sym (compared) ∙ c.if-same_value.true) (record { verdict = refl; writable = tt })
@@ -71,7 +71,7 @@ unfolding entry_at judge judge_write pick
 returns c =
     let judged : Verdict = and_then refuse (parse_lone ((entry_at c.args.heads.now c.args.bytes.now c.args.id)).type c.args.value.now) (λ _. pick (equal_values ((entry_at c.args.heads.now c.args.bytes.now c.args.id)).type ((entry_at c.args.heads.now c.args.bytes.now c.args.id)).value c.args.value.now) (ignore 0) (store_update c.args.id (next_number ((entry_at c.args.heads.now c.args.bytes.now c.args.id)).number) c.args.value.now 0 all_greeted)) in
     let judged_is : judge_write (entries_of ((table_memory c.args.heads.now c.args.bytes.now c.args.count))) c.args.id c.args.value.now ≡ judged = rw (length_entries ((table_memory c.args.heads.now c.args.bytes.now c.args.count)), lt-ltb c.args.id c.args.count c.if-id-count.false, entry_get ((table_memory c.args.heads.now c.args.bytes.now c.args.count)) c.args.id default_entry c.if-id-count.false) in
-    let value_is : parse_lone ((entry_at c.args.heads.now c.args.bytes.now c.args.id)).type c.args.value.now ≡ Taken c.in-Taken.field-0 = rw (c.type_of-type_code.ensures c.args.bytes.now) at (sym c.read_lone-checked_value.ensures ∙ c.in-Taken.is) in
+    let value_is : parse_lone ((entry_at c.args.heads.now c.args.bytes.now c.args.id)).type c.args.value.now ≡ Ok c.in-Taken.field-0 = rw (c.type_of-type_code.ensures c.args.bytes.now) at (sym c.read_lone-checked_value.ensures ∙ c.in-Taken.is) in
     let new_value : IsValue ((entry_at c.args.heads.now c.args.bytes.now c.args.id)).type c.args.value.now = accepted_value _ _ (rw (value_is) refl) in
     let compared : c.same_value.result ≡ equal_values ((entry_at c.args.heads.now c.args.bytes.now c.args.id)).type ((entry_at c.args.heads.now c.args.bytes.now c.args.id)).value c.args.value.now = c.same_value.ensures ((entry_at c.args.heads.now c.args.bytes.now c.args.id)).type ∙ ap (λ (v : List ℕ). equal_values ((entry_at c.args.heads.now c.args.bytes.now c.args.id)).type v c.args.value.now) c.value_of.ensures in
     λ marks.

@@ -1,10 +1,10 @@
 -- `read_records` meets its contract: what is left of the records is read as they all are, and each name passed owns its fingerprint, alone or as one
 -- of several.
+use Rattle.std.specs.Prelude.{Err}
 use mathlib.Core.Path.{◌≡◌, refl, sym, ap, ◌∙◌}
 use Prim.Native.Nat.{◌+◌, ◌<◌}
 use native.Mathlib.Omega.{arith}
 use lib.ListN.{length, length-set}
-use Rattle.field.specs.declared.Parsed.TheVariants.{Refused}
 use Rattle.soundness.specs.Fingerprint.{fingerprint_of}
 use Rattle.soundness.proofs.FingerprintLaws.{fingerprint_small, covers, owned_more}
 use Rattle.load.specs.Records.{saved_entry, Records}
@@ -64,7 +64,7 @@ held_before-requires c =
 pub returns-then-held_before : goal.returns-then-held_before
 returns-then-held_before c =
     let turn : Turn c.args.s.now c.args.count c.loop-i.at c.loop-i.i c.read_record-one.result = record { below = c.loop-i-test.true; here = c.loop-i.invariant.1; left = c.loop-i.invariant.4; judged = c.read_record-one.ensures } in
-    ap Refused c.fault_at.ensures
+    ap Err c.fault_at.ensures
     ∙ turn_held turn _ c.in-Taken.is (sym c.held_before.ensures ∙ c.if-held_before.true)
 
 pub next_owner-requires : goal.next_owner-requires
@@ -100,7 +100,7 @@ loop-i-preserved c =
 
 pub returns-then-at-s : goal.returns-then-at-s
 returns-then-at-s c =
-    ap Refused c.fault_at-then-at-s.ensures ∙ end_left c.args.s.now c.args.count c.loop-i.at c.loop-i.i (omega arith) c.loop-i.invariant.4 c.if-at-s.true
+    ap Err c.fault_at-then-at-s.ensures ∙ end_left c.args.s.now c.args.count c.loop-i.at c.loop-i.i (omega arith) c.loop-i.invariant.4 c.if-at-s.true
 
 pub returns : goal.returns
 returns c =

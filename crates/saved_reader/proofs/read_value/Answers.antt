@@ -3,8 +3,7 @@ use mathlib.Core.Path.{ap, ◌∙◌}
 use Prim.Native.Nat.{◌+◌, ◌-◌}
 use native.Mathlib.Omega.{arith}
 use lib.ListN.{take, drop, length-take}
-use Rattle.field.specs.Field.{fault_of}
-use Rattle.field.specs.declared.Parsed.{Parsed}
+use Rattle.field.specs.Field.{fault_of, Parsed}
 use Rattle.saved.specs.Form.{value_place}
 use Rattle.value.proofs.ValueLaws.{lone_place}
 use Rattle.saved_reader.proofs.ValueLaws.{value_refused, value_taken}

@@ -2,12 +2,10 @@ use mathlib.Core.Path.{◌≡◌}
 use Prim.Native.Nat.{◌+◌, ◌-◌, ◌*◌, ◌≤◌}
 use lib.ListN.{length, drop}
 use Rattle.value.specs.Value.{parse_element, elements}
+use Rattle.value.specs.Types.{element_code}
 use Rattle.value.proofs.read_elements.Given as goal
 
-abbrev pub invariant-loop-left : goal.invariant-loop-left
-invariant-loop-left l =
-    (l.at ≤ length l.s) × (l.at ≤ 256 + 8 * (l.count - l.left)) × (l.left ≤ l.count)
-    × (elements (parse_element l.element) l.left l.at (drop l.at l.s) ≡ elements (parse_element l.element) l.count 1 (drop 1 l.s))
-
-abbrev pub decreases-loop-left : goal.decreases-loop-left
-decreases-loop-left l = l.left
+abbrev pub invariant-loop : goal.invariant-loop
+invariant-loop l =
+    (l.at ≤ length l.s) × (l.at ≤ 256 + 8 * l.counter)
+    × (elements (parse_element (element_code l.element)) (l.count - l.counter) l.at (drop l.at l.s) ≡ elements (parse_element (element_code l.element)) l.count 1 (drop 1 l.s))

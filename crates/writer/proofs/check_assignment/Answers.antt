@@ -1,4 +1,5 @@
 -- `check_assignment` answers what `check_assignment` needs: name and value are told, and a message of their lengths has their sum and 8 bytes.
+use Rattle.std.specs.Prelude.{Ok}
 use mathlib.Core.Path.{◌≡◌, sym, ap, ◌∙◌}
 use Prim.Native.Nat.{◌+◌, ◌≤◌}
 use native.Mathlib.Omega.{arith}
@@ -6,7 +7,6 @@ use lib.ListN.{length}
 use Rattle.message.specs.Layout.{Entry, layout}
 use Rattle.message.proofs.ReadBack.{length_assignment}
 use Rattle.writer.specs.Writer.{check_assignment}
-use Rattle.field.specs.declared.Parsed.TheVariants.{Taken}
 use Rattle.writer.proofs.WriterLaws.{name_taken_lem, lone_taken_is}
 use Rattle.writer.proofs.check_assignment.Goals as goal
 
@@ -43,4 +43,4 @@ returns c =
     let size : 8 + c.in-Taken.n + c.in-Taken-checked_value.v ≡ 8 + length c.args.name.now + length c.args.value.now =
     omega (arith, (name_length_lem).0, (value_length_lem).0) in
     rw (← c.check_name-checked_name.ensures, c.in-Taken.is, ← c.read_lone-checked_value.ensures, c.in-Taken-checked_value.is, length_assignment id e)
-    (ap Taken size)
+    (ap Ok size)
