@@ -67,6 +67,18 @@ impl Fault {
         Fault { refusal, place }
     }
 
+    pub fn refusal(&self) -> Refusal
+        ensures { refusal_number result ≡ self.now.number }
+    {
+        self.refusal
+    }
+
+    pub fn place(&self) -> usize
+        ensures { result ≡ self.now.place }
+    {
+        self.place
+    }
+
     // The number that a call answers with.
     pub fn number(&self) -> u8
         ensures { result ≡ self.now.number }
