@@ -1,4 +1,6 @@
 -- A decoded message is short: a name has up to 64 bytes, a value up to 256.
+use Rattle.std.specs.Prelude.{Ok, Err}
+use Rattle.message.specs.Read.{AssignmentRead, UpdateRead, Reading}
 use mathlib.Core.Path.{◌≡◌, refl}
 use mathlib.Core.Bool.{Bool, true, false}
 use Prim.Native.Nat.{ℕ, ◌≤◌}
@@ -6,24 +8,19 @@ use native.Mathlib.Omega.{arith}
 use mathlib.Core.List.{List}
 use Rattle.field.proofs.ChoiceLaws.{by_test}
 use Rattle.message.specs.Reader.{parse_assignment, parse_update, parse_revision, parse_by_kind, parse_message, of_assignment, of_update, taken_of}
-use Rattle.message.specs.declared.AssignmentRead.{AssignmentRead}
-use Rattle.message.specs.declared.AssignmentRead.TheVariants as A
-use Rattle.message.specs.declared.UpdateRead.{UpdateRead}
-use Rattle.message.specs.declared.UpdateRead.TheVariants as U
-use Rattle.message.specs.declared.Decoded.{Decoded}
 use Rattle.message.specs.Layout.{longest_assignment}
 use Rattle.message.proofs.TakenLaws.{assignment_fits, update_fits}
 
-data Small (d : Decoded) : Type 0 where
+data Small (d : Reading) : Type 0 where
   small : taken_of d ≤ longest_assignment → Small d
 
 assignment_small : (allowed : ℕ → Bool) (m : List ℕ) (a : AssignmentRead) → parse_assignment allowed m ≡ a → Small (of_assignment a)
-assignment_small allowed m (A.Refused fault) e = small (omega arith)
-assignment_small allowed m (A.Assignment t id q n v) e = small (omega (arith, assignment_fits allowed m n t id q v e))
+assignment_small allowed m (Err fault) e = small (omega arith)
+assignment_small allowed m (Ok read) e = small (omega (arith, assignment_fits allowed m read.name_length read.type_code read.id read.number read.value_length e))
 
 update_small : (held : ℕ → Bool) (type_of : ℕ → ℕ) (m : List ℕ) (u : UpdateRead) → parse_update held type_of m ≡ u → Small (of_update u)
-update_small held type_of m (U.Refused fault) e = small (omega arith)
-update_small held type_of m (U.Update id q v) e = small (omega (arith, update_fits held type_of m id q v e))
+update_small held type_of m (Err fault) e = small (omega arith)
+update_small held type_of m (Ok read) e = small (omega (arith, update_fits held type_of m read.id read.number read.value_length e))
 
 revision_small : (hello : Bool) (m : List ℕ) → Small (parse_revision hello m)
 unfolding parse_revision
@@ -44,5 +41,5 @@ message_small t m =
 pub taken_small : (t : ℕ) (m : List ℕ) → taken_of (parse_message t m) ≤ longest_assignment
 taken_small t m = of (message_small t m)
   where
-    of : {d : Decoded} → Small d → taken_of d ≤ longest_assignment
+    of : {d : Reading} → Small d → taken_of d ≤ longest_assignment
     of (small h) = h

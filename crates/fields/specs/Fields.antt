@@ -1,9 +1,9 @@
 -- A message's fields as the C struct has them: a field that an answer does not use is 0.
-use Rattle.std.specs.Prelude.{ℕ}
+use Rattle.message.specs.Read.{Reading}
+use Rattle.std.specs.Prelude.{ℕ, Ok, Err}
 use Rattle.field.specs.Place.{WithPlace}
 use Rattle.message.specs.Layout.{keep_alive_kind, hello_kind, unsupported_kind, hello_complete_kind, assignment_kind, update_kind}
 use Rattle.message.specs.Reader.{number_of, taken_of, place_of}
-use Rattle.message.specs.declared.Decoded.{Decoded}
 use Rattle.message.specs.declared.Decoded.TheVariants as D
 use Rattle.fields.specs.declared.Fields.{Fields}
 
@@ -34,25 +34,25 @@ fields number kind type revision id entry_number taken name_length value_length 
     }
 
 -- of a message with no entry in it
-abbrev pub lone_fields : Decoded → ℕ → ℕ → MessageFields
+abbrev pub lone_fields : Reading → ℕ → ℕ → MessageFields
 lone_fields d kind revision = fields (number_of d) kind 0 revision 0 0 (taken_of d) 0 0
 
 -- with a refusal every field but the number is 0, and so is an update's type, since the message carries none
-abbrev pub fields_of : Decoded → MessageFields
-fields_of (D.Refused fault) = fields (number_of (D.Refused fault)) 0 0 0 0 0 0 0 0
-fields_of D.KeepAlive = lone_fields D.KeepAlive keep_alive_kind 0
-fields_of (D.Hello revision) = lone_fields (D.Hello revision) hello_kind revision
-fields_of (D.Unsupported revision) = lone_fields (D.Unsupported revision) unsupported_kind revision
-fields_of D.HelloComplete = lone_fields D.HelloComplete hello_complete_kind 0
-fields_of (D.Assignment type id number name_length value_length) =
-    let d = D.Assignment type id number name_length value_length in
-    fields (number_of d) assignment_kind type 0 id number (taken_of d) name_length value_length
-fields_of (D.Update id number value_length) =
-    let d = D.Update id number value_length in
-    fields (number_of d) update_kind 0 0 id number (taken_of d) 0 value_length
+abbrev pub fields_of : Reading → MessageFields
+fields_of (Err fault) = fields (number_of (Err fault)) 0 0 0 0 0 0 0 0
+fields_of (Ok D.KeepAlive) = lone_fields (Ok D.KeepAlive) keep_alive_kind 0
+fields_of (Ok (D.Hello revision)) = lone_fields (Ok (D.Hello revision)) hello_kind revision
+fields_of (Ok (D.Unsupported revision)) = lone_fields (Ok (D.Unsupported revision)) unsupported_kind revision
+fields_of (Ok D.HelloComplete) = lone_fields (Ok D.HelloComplete) hello_complete_kind 0
+fields_of (Ok (D.Assignment read)) =
+    let d : Reading = Ok (D.Assignment read) in
+    fields (number_of d) assignment_kind read.type_code 0 read.id read.number (taken_of d) read.name_length read.value_length
+fields_of (Ok (D.Update read)) =
+    let d : Reading = Ok (D.Update read) in
+    fields (number_of d) update_kind 0 0 read.id read.number (taken_of d) 0 read.value_length
 
 -- with the place of the field that failed
-abbrev pub fields_with_place : Decoded → WithPlace MessageFields
+abbrev pub fields_with_place : Reading → WithPlace MessageFields
 fields_with_place d = record { result = fields_of d; place = place_of d }
 
 -- what C's struct holds

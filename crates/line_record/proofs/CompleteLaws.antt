@@ -1,4 +1,6 @@
 -- A call that answers 1: a client's message is short, and a local call whose value is whole never does.
+use Rattle.std.specs.Prelude.{Ok, Err}
+use Rattle.message.specs.Read.{AssignmentRead, UpdateRead}
 use mathlib.Core.Path.{◌≡◌}
 use mathlib.Core.Logic.{◌≢◌}
 use mathlib.Core.Bool.{Bool, false}
@@ -16,10 +18,6 @@ use Rattle.field.proofs.ChoiceLaws.{by_test}
 use Rattle.value.specs.Value.{IsValue}
 use Rattle.value.proofs.ValueLaws.{lone_taken}
 use Rattle.message.specs.Layout.{Entry, max_name_length, kind_size, revision_length}
-use Rattle.message.specs.declared.AssignmentRead.{AssignmentRead}
-use Rattle.message.specs.declared.AssignmentRead.TheVariants as A
-use Rattle.message.specs.declared.UpdateRead.{UpdateRead}
-use Rattle.message.specs.declared.UpdateRead.TheVariants as U
 use Rattle.writer.specs.Writer.{check_name}
 use Rattle.table.specs.Names.{name_held}
 use Rattle.table.specs.Table.{entries_of, default_entry}
@@ -59,15 +57,15 @@ module _ (m : List ℕ) where
 
   assignment_brief : (limit : ℕ) (es : List Entry) (r : AssignmentRead) → AssignmentShort m r → Brief (length m ≤ longest_incomplete) (judge_assignment limit es m r)
   unfolding judge_assignment
-  assignment_brief limit es (A.Refused fault) (AssignmentShort.refused f) = refused f
-  assignment_brief limit es (A.Assignment t id q n v) f =
+  assignment_brief limit es (Err fault) (AssignmentShort.refused f) = refused f
+  assignment_brief limit es (Ok read) f =
       by_test (Brief (length m ≤ longest_incomplete)) _ _ _ (λ _. ignored)
       (λ _. by_test (Brief (length m ≤ longest_incomplete)) _ _ _ (λ _. new) (λ _. refuses table_full (omega arith)))
 
   update_brief : (c : ℕ) (es : List Entry) (r : UpdateRead) → UpdateShort m r → Brief (length m ≤ longest_incomplete) (judge_update c es m r)
   unfolding judge_update
-  update_brief c es (U.Refused fault) (UpdateShort.refused f) = refused f
-  update_brief c es (U.Update id q v) f = by_test (Brief (length m ≤ longest_incomplete)) _ _ _ (λ _. update) (λ _. ignored)
+  update_brief c es (Err fault) (UpdateShort.refused f) = refused f
+  update_brief c es (Ok read) f = by_test (Brief (length m ≤ longest_incomplete)) _ _ _ (λ _. update) (λ _. ignored)
 
   message_brief : (limit : ℕ) (es : List Entry) (marks : List ℕ) (c : ℕ) → Brief (length m ≤ longest_incomplete) (judge limit es marks (client_message c m))
   unfolding judge judge_message judge_kind

@@ -1,4 +1,6 @@
 -- Laws of held bytes: what a message that goes on takes, that one that is held is short, and that memory stays sound.
+use Rattle.std.specs.Prelude.{Ok, Err}
+use Rattle.message.specs.Read.{AssignmentRead, UpdateRead}
 use mathlib.Core.Path.{◌≡◌, refl}
 use mathlib.Core.Logic.{◌≢◌, ◌⊎◌, inl, inr}
 use mathlib.Core.Bool.{Bool, true, false, ◌||◌, false≢true}
@@ -14,10 +16,6 @@ use Rattle.answer.specs.Answers.{goes_on}
 use Rattle.message.specs.Layout.{kind_size}
 use Rattle.message.specs.Reader.{id_allowed, name_in, value_in, update_value_in, assignment_length, update_length}
 use Rattle.message.specs.declared.AllowedId.TheVariants.{Only}
-use Rattle.message.specs.declared.AssignmentRead.{AssignmentRead}
-use Rattle.message.specs.declared.AssignmentRead.TheVariants as A
-use Rattle.message.specs.declared.UpdateRead.{UpdateRead}
-use Rattle.message.specs.declared.UpdateRead.TheVariants as U
 use Rattle.message.proofs.RefusalLaws.{refusal_number, AssignmentRefused, assignment_rightly, UpdateRefused, update_rightly}
 use Rattle.message.proofs.TakenLaws.{AssignmentIs, assignment_is, UpdateIs, update_is}
 use Rattle.table.specs.Table.{entries_of, default_entry}
@@ -73,7 +71,7 @@ module _ (limit : ℕ) (mem : ServerMemory) (m : List ℕ) where
       record { numbers = (call_answered limit mem (with_output limit call)).numbers; short = λ e. absurd (complete e); takes = λ on. rw (pick_true size 0 on) (some, there) }
 
   create_facts : (r : AssignmentRead) → AssignmentIs (id_allowed (Only new_id)) m r → AssignmentRefused r → AssignmentShort m r → EffectFacts m (plant_effect limit mem (plant_create m r))
-  create_facts (A.Refused fault) f (AssignmentRefused.refused n) (AssignmentShort.refused h) = refused_facts (plant_number fault.number) (right fault.number n) (one fault.number h)
+  create_facts (Err fault) f (AssignmentRefused.refused n) (AssignmentShort.refused h) = refused_facts (plant_number fault.number) (right fault.number n) (one fault.number h)
     where
       right : (number : ℕ) → RefusalNumber number → RefusalNumber (plant_number number)
       right number n = by_test RefusalNumber _ _ _ (λ _. refusal_number unknown_kind (omega arith) (omega arith)) (λ _. n)
@@ -81,15 +79,15 @@ module _ (limit : ℕ) (mem : ServerMemory) (m : List ℕ) where
       one : (number : ℕ) → (number ≡ incomplete → length m ≤ longest_incomplete) → plant_number number ≡ incomplete → length m ≤ longest_incomplete
       one number h =
           by_test (λ (k : ℕ). k ≡ incomplete → length m ≤ longest_incomplete) _ _ _ (λ _. not_incomplete unknown_kind (omega arith)) (λ _. h)
-  create_facts (A.Assignment t id q n v) (AssignmentIs.taken a h w f) g s =
-      asks_facts (local_create (name_in n m) t (value_in n v m)) (assignment_length n v) (omega arith) h
-      (create_complete limit mem (longest_output limit) (name_in n m) t (value_in n v m) (w 0).value_whole)
+  create_facts (Ok read) (AssignmentIs.taken a h w f) g s =
+      asks_facts (local_create (name_in read.name_length m) read.type_code (value_in read.name_length read.value_length m)) (assignment_length read.name_length read.value_length) (omega arith) h
+      (create_complete limit mem (longest_output limit) (name_in read.name_length m) read.type_code (value_in read.name_length read.value_length m) (w 0).value_whole)
 
   write_facts : (r : UpdateRead) → UpdateIs (λ id. ltb id (length (entries_of mem.table))) (λ id. (get_or (entries_of mem.table) id default_entry).type) m r → UpdateRefused r
       → UpdateShort m r → EffectFacts m (plant_effect limit mem (plant_write m r))
-  write_facts (U.Refused fault) f (UpdateRefused.refused n) (UpdateShort.refused h) = refused_facts fault.number n h
-  write_facts (U.Update id q v) (UpdateIs.taken a h w i k) g s =
-      asks_facts (local_write id (update_value_in v m)) (update_length v) (omega arith) h (write_complete limit mem (longest_output limit) id (update_value_in v m) w)
+  write_facts (Err fault) f (UpdateRefused.refused n) (UpdateShort.refused h) = refused_facts fault.number n h
+  write_facts (Ok read) (UpdateIs.taken a h w i k) g s =
+      asks_facts (local_write read.id (update_value_in read.value_length m)) (update_length read.value_length) (omega arith) h (write_complete limit mem (longest_output limit) read.id (update_value_in read.value_length m) w)
 
   plant_facts : EffectFacts m (plant_effect limit mem (plant_message (entries_of mem.table) m))
   unfolding plant_message

@@ -1,4 +1,5 @@
 -- Whose mark a call changes: that of no other connection.
+use Rattle.message.specs.Read.{AssignmentRead, UpdateRead}
 use Rattle.std.specs.Prelude.{Err, Ok}
 use mathlib.Core.Path.{◌≡◌, refl, ◌∙◌}
 use mathlib.Core.Logic.{◌≢◌}
@@ -15,10 +16,6 @@ use Rattle.value.specs.Value.{parse_lone}
 use Rattle.message.specs.Layout.{Entry}
 use Rattle.message.specs.Reader.{id_allowed, parse_assignment}
 use Rattle.message.specs.declared.AllowedId.TheVariants.{Only}
-use Rattle.message.specs.declared.AssignmentRead.{AssignmentRead}
-use Rattle.message.specs.declared.AssignmentRead.TheVariants as A
-use Rattle.message.specs.declared.UpdateRead.{UpdateRead}
-use Rattle.message.specs.declared.UpdateRead.TheVariants as U
 use Rattle.writer.specs.Writer.{check_name}
 use Rattle.table.specs.Table.{TableMemory, entries_of, default_entry, parse_held_update}
 use Rattle.recipients.specs.Recipients.{Recipients}
@@ -55,13 +52,13 @@ module _ (c limit : ℕ) (es : List Entry) where
 
   assignment_own : (m : List ℕ) (r : AssignmentRead) → Own c (judge_assignment limit es m r)
   unfolding judge_assignment
-  assignment_own m (A.Refused fault) = refused
-  assignment_own m (A.Assignment t id q n v) = by_test (Own c) _ _ _ (λ _. ignored) (λ _. by_test (Own c) _ _ _ (λ _. new) (λ _. refused))
+  assignment_own m (Err fault) = refused
+  assignment_own m (Ok read) = by_test (Own c) _ _ _ (λ _. ignored) (λ _. by_test (Own c) _ _ _ (λ _. new) (λ _. refused))
 
   update_own : (m : List ℕ) (r : UpdateRead) → Own c (judge_update c es m r)
   unfolding judge_update
-  update_own m (U.Refused fault) = refused
-  update_own m (U.Update id q v) = by_test (Own c) _ _ _ (λ _. update) (λ _. ignored)
+  update_own m (Err fault) = refused
+  update_own m (Ok read) = by_test (Own c) _ _ _ (λ _. update) (λ _. ignored)
 
   message_own : (mark : ℕ) (m : List ℕ) → Own c (judge_message limit es c mark m)
   unfolding judge_message judge_kind
@@ -148,12 +145,12 @@ data Local : PlantMessage → Type 0 where
   local_call : {call : Call} {size : ℕ} → ((c : ℕ) → CallOf c call) → Local (asks call size)
 
 create_local : (m : List ℕ) (r : AssignmentRead) → Local (plant_create m r)
-create_local m (A.Refused fault) = Local.refused
-create_local m (A.Assignment t id q n v) = local_call (λ c. creates)
+create_local m (Err fault) = Local.refused
+create_local m (Ok read) = local_call (λ c. creates)
 
 write_local : (m : List ℕ) (r : UpdateRead) → Local (plant_write m r)
-write_local m (U.Refused fault) = Local.refused
-write_local m (U.Update id q v) = local_call (λ c. writes)
+write_local m (Err fault) = Local.refused
+write_local m (Ok read) = local_call (λ c. writes)
 
 plant_local : (es : List Entry) (m : List ℕ) → Local (plant_message es m)
 unfolding plant_message

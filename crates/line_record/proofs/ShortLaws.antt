@@ -1,4 +1,5 @@
 -- Bytes whose reading ends with 1 are few: an assignment or an update of more is read whole, or refused by another number.
+use Rattle.message.specs.Read.{AssignmentRead, UpdateRead, an_assignment, an_update}
 use Rattle.std.specs.Prelude.{Err, Ok}
 use mathlib.Core.Path.{◌≡◌}
 use mathlib.Core.Bool.{Bool, true, false}
@@ -19,10 +20,6 @@ use Rattle.value.specs.Value.{max_value_size, boolean_size, double_size, count_s
 use Rattle.reader.specs.Reader.{parse_text_at, parse_value_at}
 use Rattle.message.specs.Layout.{max_name_length, kind_size, id_behind_name, number_behind_name, value_behind_name, assignment_name_start, update_number_start, update_value_start}
 use Rattle.message.specs.Reader.{parse_behind_id, parse_after_name, parse_assignment, parse_behind_update_id, parse_update}
-use Rattle.message.specs.declared.AssignmentRead.{AssignmentRead}
-use Rattle.message.specs.declared.AssignmentRead.TheVariants as A
-use Rattle.message.specs.declared.UpdateRead.{UpdateRead}
-use Rattle.message.specs.declared.UpdateRead.TheVariants as U
 use Rattle.line_record.specs.Held.{longest_incomplete}
 
 pub not_incomplete : {X : Type 0} (number : ℕ) → incomplete < number → number ≡ incomplete → X
@@ -128,17 +125,17 @@ value_short t s = all s
 -- ---- messages
 
 pub data AssignmentShort (m : List ℕ) : AssignmentRead → Type 0 where
-  refused : {fault : Fault} → (fault.number ≡ incomplete → length m ≤ longest_incomplete) → AssignmentShort m (A.Refused fault)
-  taken : {t id q n v : ℕ} → AssignmentShort m (A.Assignment t id q n v)
+  refused : {fault : Fault} → (fault.number ≡ incomplete → length m ≤ longest_incomplete) → AssignmentShort m (Err fault)
+  taken : {t id q n v : ℕ} → AssignmentShort m (an_assignment t id q n v)
 
 pub data UpdateShort (m : List ℕ) : UpdateRead → Type 0 where
-  refused : {fault : Fault} → (fault.number ≡ incomplete → length m ≤ longest_incomplete) → UpdateShort m (U.Refused fault)
-  taken : {id q v : ℕ} → UpdateShort m (U.Update id q v)
+  refused : {fault : Fault} → (fault.number ≡ incomplete → length m ≤ longest_incomplete) → UpdateShort m (Err fault)
+  taken : {id q v : ℕ} → UpdateShort m (an_update id q v)
 
-cut_assignment : (m : List ℕ) (n place : ℕ) → n ≤ longest_incomplete → leb n (length m) ≡ false → AssignmentShort m (A.Refused (fault_at incomplete place))
+cut_assignment : (m : List ℕ) (n place : ℕ) → n ≤ longest_incomplete → leb n (length m) ≡ false → AssignmentShort m (Err (fault_at incomplete place))
 cut_assignment m n place h l = AssignmentShort.refused (λ _. omega (arith, leb-false n (length m) l))
 
-other_assignment : (m : List ℕ) (number place : ℕ) → incomplete < number → AssignmentShort m (A.Refused (fault_at number place))
+other_assignment : (m : List ℕ) (number place : ℕ) → incomplete < number → AssignmentShort m (Err (fault_at number place))
 other_assignment m number place h = AssignmentShort.refused (not_incomplete number h)
 
 after_name_short : (allowed : ℕ → Bool) (at : ℕ) (m : List ℕ) → at ≤ assignment_name_start + max_name_length → AssignmentShort m (parse_after_name allowed at m)
@@ -154,7 +151,7 @@ after_name_short allowed at m h =
     P = AssignmentShort m
 
     go : (r : Parsed) → Short Any 0 (drop (at + value_behind_name) m) r
-        → P (and_then A.Refused (moved_by (at + value_behind_name) r) (λ v. A.Assignment (get_or m at 0) (decode16 (drop (at + id_behind_name) m)) (decode16 (drop (at + number_behind_name) m)) (at - assignment_name_start) v))
+        → P (and_then Err (moved_by (at + value_behind_name) r) (λ v. an_assignment (get_or m at 0) (decode16 (drop (at + id_behind_name) m)) (decode16 (drop (at + number_behind_name) m)) (at - assignment_name_start) v))
     go (Err fault) (Short.refused f) = AssignmentShort.refused (λ (e : fault.number ≡ incomplete). omega (arith, f e, length-drop (at + value_behind_name) m))
     go (Ok n) f = AssignmentShort.taken
 
@@ -163,7 +160,7 @@ unfolding parse_assignment parse_text_at
 assignment_short allowed m = go _ (text_short (λ n. n ≤ prefix_size + max_name_length) 0 (drop kind_size m) (prefix_size + max_name_length) (omega arith) (omega arith) (λ n h. h))
   where
     go : (r : Parsed) → Short (λ n. n ≤ prefix_size + max_name_length) 0 (drop kind_size m) r
-        → AssignmentShort m (and_then A.Refused (moved_by kind_size r) (λ size. parse_after_name allowed (kind_size + size) m))
+        → AssignmentShort m (and_then Err (moved_by kind_size r) (λ size. parse_after_name allowed (kind_size + size) m))
     go (Err fault) (Short.refused f) = AssignmentShort.refused (λ (e : fault.number ≡ incomplete). omega (arith, f e, length-drop kind_size m))
     go (Ok n) (Short.taken h) = after_name_short allowed (kind_size + n) m (omega arith)
 
@@ -178,10 +175,10 @@ update_short held type_of m =
     P : UpdateRead → Type 0
     P = UpdateShort m
 
-    cut_update : (n place : ℕ) → n ≤ longest_incomplete → leb n (length m) ≡ false → P (U.Refused (fault_at incomplete place))
+    cut_update : (n place : ℕ) → n ≤ longest_incomplete → leb n (length m) ≡ false → P (Err (fault_at incomplete place))
     cut_update n place h l = UpdateShort.refused (λ _. omega (arith, leb-false n (length m) l))
 
     go : (r : Parsed) → Short Any 0 (drop update_value_start m) r
-        → P (and_then U.Refused (moved_by update_value_start r) (λ v. U.Update (decode16 (drop kind_size m)) (decode16 (drop update_number_start m)) v))
+        → P (and_then Err (moved_by update_value_start r) (λ v. an_update (decode16 (drop kind_size m)) (decode16 (drop update_number_start m)) v))
     go (Err fault) (Short.refused f) = UpdateShort.refused (λ (e : fault.number ≡ incomplete). omega (arith, f e, length-drop update_value_start m))
     go (Ok n) f = UpdateShort.taken

@@ -1,15 +1,12 @@
 -- "Connection 16 is the plant's own code": what its bytes ask for.
-use Rattle.std.specs.Prelude.{ℕ, List, get_or, eqb}
+use Rattle.message.specs.Read.{AssignmentRead, UpdateRead}
+use Rattle.std.specs.Prelude.{ℕ, List, get_or, eqb, Ok, Err}
 use Rattle.field.specs.Answer.{incomplete, unknown_kind, wrong_id}
 use Rattle.field.specs.Choice.{pick}
 use Rattle.field.specs.Field.{demand_bytes}
 use Rattle.message.specs.Layout.{Entry, kind_size, assignment_kind, update_kind}
 use Rattle.message.specs.Reader.{id_allowed, parse_assignment, name_in, value_in, update_value_in, assignment_length, update_length}
 use Rattle.message.specs.declared.AllowedId.TheVariants.{Only}
-use Rattle.message.specs.declared.AssignmentRead.{AssignmentRead}
-use Rattle.message.specs.declared.AssignmentRead.TheVariants as A
-use Rattle.message.specs.declared.UpdateRead.{UpdateRead}
-use Rattle.message.specs.declared.UpdateRead.TheVariants as U
 use Rattle.table.specs.Table.{parse_held_update}
 use Rattle.protocol.specs.Judge.{Call, local_create, local_write, new_id}
 
@@ -24,14 +21,14 @@ plant_number number = pick (eqb number wrong_id) unknown_kind number
 
 -- "an assignment with ID 0xFFFF is a local create", "its number unused"
 abbrev pub plant_create : List ℕ → AssignmentRead → PlantMessage
-plant_create m (A.Refused fault) = refused_message (plant_number fault.number)
-plant_create m (A.Assignment type id number name_length value_length) =
-    asks (local_create (name_in name_length m) type (value_in name_length value_length m)) (assignment_length name_length value_length)
+plant_create m (Err fault) = refused_message (plant_number fault.number)
+plant_create m (Ok read) =
+    asks (local_create (name_in read.name_length m) read.type_code (value_in read.name_length read.value_length m)) (assignment_length read.name_length read.value_length)
 
 -- "an update a local write, its number unused"
 abbrev pub plant_write : List ℕ → UpdateRead → PlantMessage
-plant_write m (U.Refused fault) = refused_message fault.number
-plant_write m (U.Update id number value_length) = asks (local_write id (update_value_in value_length m)) (update_length value_length)
+plant_write m (Err fault) = refused_message fault.number
+plant_write m (Ok read) = asks (local_write read.id (update_value_in read.value_length m)) (update_length read.value_length)
 
 unfoldable pub plant_message : List Entry → List ℕ → PlantMessage
 plant_message es m =

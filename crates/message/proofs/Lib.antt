@@ -1,3 +1,4 @@
+pub mod KindLaws
 pub mod ReaderLaws
 pub mod ReadBack
 pub mod TakenLaws

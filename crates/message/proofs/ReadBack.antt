@@ -1,4 +1,5 @@
 -- Reading back what was written: a message's bytes, whatever stands behind them, give its fields again.
+use Rattle.message.specs.Read.{an_assignment, an_update}
 use Rattle.std.specs.Prelude.{Ok}
 use mathlib.Core.Path.{◌≡◌, refl, sym, ap, ◌∙◌}
 use mathlib.Core.Bool.{Bool, true}
@@ -21,8 +22,6 @@ use Rattle.message.specs.Layout.{Entry, keep_alive, hello, unsupported, hello_co
 use Rattle.message.specs.Reader.{id_allowed, parse_name, parse_behind_id, parse_after_name, parse_assignment, parse_behind_update_id, parse_update, parse_revision, parse_by_kind, parse_message, of_assignment, of_update, contents}
 use Rattle.message.specs.Laws.{LongestAssignment, LongestUpdate, ReadBack, SameBytes}
 use Rattle.message.specs.declared.AllowedId.TheVariants.{Any}
-use Rattle.message.specs.declared.AssignmentRead.TheVariants as A
-use Rattle.message.specs.declared.UpdateRead.TheVariants as U
 use Rattle.message.specs.declared.Decoded.TheVariants as D
 
 -- ---- lengths
@@ -81,7 +80,7 @@ module _ (id : ℕ) (e : Entry) (rest : List ℕ) where
 -- the fields past a name that ends at a place
 after_name_back : (allowed : ℕ → Bool) (at : ℕ) (m : List ℕ) (t id number : ℕ) (value rest : List ℕ) → allowed id ≡ true → IsValue t value
     → at + 5 ≤ length m → drop at m ≡ after_name t id number (value ++ rest)
-    → parse_after_name allowed at m ≡ A.Assignment t id number (at - 3) (length value)
+    → parse_after_name allowed at m ≡ an_assignment t id number (at - 3) (length value)
 unfolding parse_after_name parse_behind_id parse_value_at after_name encode16 pick
 after_name_back allowed at m t id number value rest a w h e =
     let type_is : get_or m at 0 ≡ t = ap (λ (k : ℕ). get_or m k 0) (sym (add-zero at)) ∙ sym (get_or-drop at m 0 0) ∙ ap (λ (l : List ℕ). get_or l 0 0) e in
@@ -108,7 +107,7 @@ parse_name_back id e rest w =
     rw (behind_kind_lem id e rest, text_back 66 e.name (after_name e.type id e.number (e.value ++ rest)) (omega (arith, w.name_fits)) w.name_text)
 
 pub assignment_back : (allowed : ℕ → Bool) (id : ℕ) (e : Entry) (rest : List ℕ) → allowed id ≡ true → WellFormed e
-    → parse_assignment allowed (assignment_bytes id e ++ rest) ≡ A.Assignment e.type id e.number (length e.name) (length e.value)
+    → parse_assignment allowed (assignment_bytes id e ++ rest) ≡ an_assignment e.type id e.number (length e.name) (length e.value)
 unfolding parse_assignment
 assignment_back allowed id e rest a w =
     let place : 1 + (2 + length e.name) ≡ 3 + length e.name = omega arith in
@@ -124,7 +123,7 @@ unfolding update_bytes encode16
 update_value_back id number value rest = take-append_seam value rest
 
 pub update_back : (held : ℕ → Bool) (type_of : ℕ → ℕ) (id number : ℕ) (value rest : List ℕ) → held id ≡ true → IsValue (type_of id) value
-    → parse_update held type_of (update_bytes id number value ++ rest) ≡ U.Update id number (length value)
+    → parse_update held type_of (update_bytes id number value ++ rest) ≡ an_update id number (length value)
 unfolding parse_behind_update_id parse_update parse_value_at update_bytes encode16 pick
 update_back held type_of id number value rest h w =
     rw (
@@ -148,20 +147,20 @@ kind_update : (t : ℕ) (s : List ℕ) → parse_message t (update_kind ∷ s) �
 unfolding parse_message parse_by_kind pick
 kind_update t s = rw (le-leb 1 (suc (length s)) (omega arith))
 
-message_keep_alive : (t : ℕ) (s : List ℕ) → parse_message t (keep_alive_kind ∷ s) ≡ D.KeepAlive
+message_keep_alive : (t : ℕ) (s : List ℕ) → parse_message t (keep_alive_kind ∷ s) ≡ (Ok D.KeepAlive)
 unfolding parse_message parse_by_kind pick
 message_keep_alive t s = rw (le-leb 1 (suc (length s)) (omega arith))
 
-message_hello_complete : (t : ℕ) (s : List ℕ) → parse_message t (hello_complete_kind ∷ s) ≡ D.HelloComplete
+message_hello_complete : (t : ℕ) (s : List ℕ) → parse_message t (hello_complete_kind ∷ s) ≡ (Ok D.HelloComplete)
 unfolding parse_message parse_by_kind pick
 message_hello_complete t s = rw (le-leb 1 (suc (length s)) (omega arith))
 
-message_hello : (t revision : ℕ) (rest : List ℕ) → parse_message t (revision_bytes hello_kind revision ++ rest) ≡ D.Hello revision
+message_hello : (t revision : ℕ) (rest : List ℕ) → parse_message t (revision_bytes hello_kind revision ++ rest) ≡ Ok (D.Hello revision)
 unfolding parse_message parse_by_kind parse_revision revision_bytes encode16 pick
 message_hello t revision rest =
     rw (le-leb 1 (suc (suc (suc (length rest)))) (omega arith), le-leb 3 (suc (suc (suc (length rest)))) (omega arith), decode_encode revision rest)
 
-message_unsupported : (t revision : ℕ) (rest : List ℕ) → parse_message t (revision_bytes unsupported_kind revision ++ rest) ≡ D.Unsupported revision
+message_unsupported : (t revision : ℕ) (rest : List ℕ) → parse_message t (revision_bytes unsupported_kind revision ++ rest) ≡ Ok (D.Unsupported revision)
 unfolding parse_message parse_by_kind parse_revision revision_bytes encode16 pick
 message_unsupported t revision rest =
     rw (le-leb 1 (suc (suc (suc (length rest)))) (omega arith), le-leb 3 (suc (suc (suc (length rest)))) (omega arith), decode_encode revision rest)
@@ -177,19 +176,19 @@ unfolding update_bytes
 by_kind_update t id number value rest = kind_update t _
 
 message_assignment : (t id : ℕ) (e : Entry) (rest : List ℕ) → WellFormed e
-    → parse_message t (assignment_bytes id e ++ rest) ≡ D.Assignment e.type id e.number (length e.name) (length e.value)
+    → parse_message t (assignment_bytes id e ++ rest) ≡ of_assignment (an_assignment e.type id e.number (length e.name) (length e.value))
 message_assignment t id e rest w = by_kind_assignment t id e rest ∙ ap of_assignment (assignment_back (id_allowed Any) id e rest refl w)
 
 message_update : (t id number : ℕ) (value rest : List ℕ) → IsValue t value
-    → parse_message t (update_bytes id number value ++ rest) ≡ D.Update id number (length value)
+    → parse_message t (update_bytes id number value ++ rest) ≡ of_update (an_update id number (length value))
 message_update t id number value rest w = by_kind_update t id number value rest ∙ ap of_update (update_back (id_allowed Any) (λ _. t) id number value rest refl w)
 
 assignment_fields : (id : ℕ) (e : Entry) (rest : List ℕ)
-    → contents (assignment_bytes id e ++ rest) (D.Assignment e.type id e.number (length e.name) (length e.value)) ≡ some (assignment id e)
+    → contents (assignment_bytes id e ++ rest) (of_assignment (an_assignment e.type id e.number (length e.name) (length e.value))) ≡ some (assignment id e)
 assignment_fields id e rest = rw (name_back id e rest, value_back_at id e rest)
 
 update_fields : (id number : ℕ) (value rest : List ℕ)
-    → contents (update_bytes id number value ++ rest) (D.Update id number (length value)) ≡ some (update id number value)
+    → contents (update_bytes id number value ++ rest) (of_update (an_update id number (length value))) ≡ some (update id number value)
 update_fields id number value rest = rw (update_value_back id number value rest)
 
 pub read_back : ReadBack

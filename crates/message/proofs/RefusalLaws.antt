@@ -1,4 +1,5 @@
 -- "A refusal (1 to 14)": the number of every refusal of a reader.
+use Rattle.message.specs.Read.{AssignmentRead, UpdateRead, an_assignment, an_update}
 use Rattle.std.specs.Prelude.{Err, Ok}
 use mathlib.Core.Bool.{Bool}
 use mathlib.Core.List.{List}
@@ -16,10 +17,6 @@ use Rattle.text.specs.Text.{parse_text}
 use Rattle.value.specs.Value.{max_value_size, parse_boolean, parse_double, parse_element, elements, parse_array, parse_value, parse_lone}
 use Rattle.reader.specs.Reader.{parse_text_at, parse_value_at}
 use Rattle.message.specs.Reader.{parse_behind_id, parse_after_name, parse_assignment, parse_behind_update_id, parse_update}
-use Rattle.message.specs.declared.AssignmentRead.{AssignmentRead}
-use Rattle.message.specs.declared.AssignmentRead.TheVariants as A
-use Rattle.message.specs.declared.UpdateRead.{UpdateRead}
-use Rattle.message.specs.declared.UpdateRead.TheVariants as U
 
 pub refusal_number : (number : ℕ) → 1 ≤ number → number ≤ 14 → RefusalNumber number
 refusal_number number a b = record { above = a; below = b }
@@ -93,17 +90,17 @@ lone_rightly t v = go (parse_value t v) (value_rightly t v)
 -- ---- messages
 
 pub data AssignmentRefused : AssignmentRead → Type 0 where
-  refused : {fault : Fault} → RefusalNumber fault.number → AssignmentRefused (A.Refused fault)
-  taken : {n t id q v : ℕ} → AssignmentRefused (A.Assignment t id q n v)
+  refused : {fault : Fault} → RefusalNumber fault.number → AssignmentRefused (Err fault)
+  taken : {n t id q v : ℕ} → AssignmentRefused (an_assignment t id q n v)
 
 pub data UpdateRefused : UpdateRead → Type 0 where
-  refused : {fault : Fault} → RefusalNumber fault.number → UpdateRefused (U.Refused fault)
-  taken : {id q v : ℕ} → UpdateRefused (U.Update id q v)
+  refused : {fault : Fault} → RefusalNumber fault.number → UpdateRefused (Err fault)
+  taken : {id q v : ℕ} → UpdateRefused (an_update id q v)
 
-numbered_assignment : (number place : ℕ) → 1 ≤ number → number ≤ 14 → AssignmentRefused (A.Refused (fault_at number place))
+numbered_assignment : (number place : ℕ) → 1 ≤ number → number ≤ 14 → AssignmentRefused (Err (fault_at number place))
 numbered_assignment number place a b = AssignmentRefused.refused (refusal_number number a b)
 
-numbered_update : (number place : ℕ) → 1 ≤ number → number ≤ 14 → UpdateRefused (U.Refused (fault_at number place))
+numbered_update : (number place : ℕ) → 1 ≤ number → number ≤ 14 → UpdateRefused (Err (fault_at number place))
 numbered_update number place a b = UpdateRefused.refused (refusal_number number a b)
 
 after_name_rightly : (allowed : ℕ → Bool) (at : ℕ) (m : List ℕ) → AssignmentRefused (parse_after_name allowed at m)
@@ -118,7 +115,7 @@ after_name_rightly allowed at m =
     P : AssignmentRead → Type 0
     P = AssignmentRefused
 
-    go : (r : Parsed) → RefusedRightly r → P (and_then A.Refused r (λ v. A.Assignment (get_or m at 0) (decode16 (drop (at + 1) m)) (decode16 (drop (at + 3) m)) (at - 3) v))
+    go : (r : Parsed) → RefusedRightly r → P (and_then Err r (λ v. an_assignment (get_or m at 0) (decode16 (drop (at + 1) m)) (decode16 (drop (at + 3) m)) (at - 3) v))
     go (Err fault) (RefusedRightly.refused f) = AssignmentRefused.refused f
     go (Ok n) f = AssignmentRefused.taken
 
@@ -126,7 +123,7 @@ pub assignment_rightly : (allowed : ℕ → Bool) (m : List ℕ) → AssignmentR
 unfolding parse_assignment parse_text_at
 assignment_rightly allowed m = go _ (moved_rightly 1 _ (text_rightly 66 0 (drop 1 m)))
   where
-    go : (r : Parsed) → RefusedRightly r → AssignmentRefused (and_then A.Refused r (λ size. parse_after_name allowed (1 + size) m))
+    go : (r : Parsed) → RefusedRightly r → AssignmentRefused (and_then Err r (λ size. parse_after_name allowed (1 + size) m))
     go (Err fault) (RefusedRightly.refused f) = AssignmentRefused.refused f
     go (Ok n) f = after_name_rightly allowed (1 + n) m
 
@@ -138,6 +135,6 @@ update_rightly held type_of m =
     (λ _. numbered_update 1 3 (omega arith) (omega arith))) (λ _. numbered_update 6 1 (omega arith) (omega arith)))
     (λ _. numbered_update 1 1 (omega arith) (omega arith))
   where
-    go : (r : Parsed) → RefusedRightly r → UpdateRefused (and_then U.Refused r (λ v. U.Update (decode16 (drop 1 m)) (decode16 (drop 3 m)) v))
+    go : (r : Parsed) → RefusedRightly r → UpdateRefused (and_then Err r (λ v. an_update (decode16 (drop 1 m)) (decode16 (drop 3 m)) v))
     go (Err fault) (RefusedRightly.refused f) = UpdateRefused.refused f
     go (Ok n) f = UpdateRefused.taken

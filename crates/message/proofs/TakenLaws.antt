@@ -1,4 +1,5 @@
 -- What is known of an assignment or an update that was read: its bytes are there, and its name and value obey the rules.
+use Rattle.message.specs.Read.{AssignmentRead, UpdateRead, an_assignment, an_update}
 use Rattle.std.specs.Prelude.{Err, Ok}
 use mathlib.Core.Path.{◌≡◌, refl}
 use mathlib.Core.Bool.{Bool, true}
@@ -20,10 +21,6 @@ use Rattle.value.proofs.ValueLaws.{value_fits, value_small, value_whole}
 use Rattle.reader.specs.Reader.{parse_text_at, parse_value_at}
 use Rattle.message.specs.Layout.{WellFormed, max_name_length}
 use Rattle.message.specs.Reader.{parse_behind_id, parse_after_name, parse_assignment, parse_behind_update_id, parse_update, entry_in}
-use Rattle.message.specs.declared.AssignmentRead.{AssignmentRead}
-use Rattle.message.specs.declared.AssignmentRead.TheVariants as A
-use Rattle.message.specs.declared.UpdateRead.{UpdateRead}
-use Rattle.message.specs.declared.UpdateRead.TheVariants as U
 
 -- ---- an assignment
 
@@ -35,9 +32,9 @@ pub record AssignmentFields (m : List ℕ) (n t id number : ℕ) : Type 0 where
   pub number_is : number ≡ decode16 (drop (3 + n + 3) m)
 
 pub data AssignmentIs (allowed : ℕ → Bool) (m : List ℕ) : AssignmentRead → Type 0 where
-  refused : {fault : Fault} → AssignmentIs allowed m (A.Refused fault)
+  refused : {fault : Fault} → AssignmentIs allowed m (Err fault)
   taken : {n t id q v : ℕ} → allowed id ≡ true → 8 + n + v ≤ length m → ((number : ℕ) → WellFormed (entry_in n t number v m))
-      → AssignmentFields m n t id q → AssignmentIs allowed m (A.Assignment t id q n v)
+      → AssignmentFields m n t id q → AssignmentIs allowed m (an_assignment t id q n v)
 
 -- a name of n bytes behind the kind
 record NameAt (m : List ℕ) (n : ℕ) : Type 0 where
@@ -45,12 +42,12 @@ record NameAt (m : List ℕ) (n : ℕ) : Type 0 where
   name_text : is_utf8 (take n (drop 3 m)) ≡ true
 
 value_is : (allowed : ℕ → Bool) (m : List ℕ) (n t id q : ℕ) → NameAt m n → AssignmentFields m n t id q → allowed id ≡ true → 3 + n + 5 ≤ length m
-    → AssignmentIs allowed m (and_then A.Refused (parse_value_at t (3 + n + 5) m) (λ v. A.Assignment t id q n v))
+    → AssignmentIs allowed m (and_then Err (parse_value_at t (3 + n + 5) m) (λ v. an_assignment t id q n v))
 unfolding parse_value_at
 value_is allowed m n t id q name fields a there = go (parse_value t (drop (3 + n + 5) m)) refl
   where
     go : (r : Parsed) → parse_value t (drop (3 + n + 5) m) ≡ r
-        → AssignmentIs allowed m (and_then A.Refused (moved_by (3 + n + 5) r) (λ v. A.Assignment t id q n v))
+        → AssignmentIs allowed m (and_then Err (moved_by (3 + n + 5) r) (λ v. an_assignment t id q n v))
     go (Err fault) e = refused
     go (Ok v) e =
         let eight : 3 + n + 5 ≡ 8 + n = omega arith in
@@ -82,7 +79,7 @@ pub assignment_is : (allowed : ℕ → Bool) (m : List ℕ) → AssignmentIs all
 unfolding parse_assignment parse_text_at
 assignment_is allowed m = go (parse_text 66 0 (drop 1 m)) (text_is 66 0 (drop 1 m))
   where
-    go : (r : Parsed) → TextIs 66 0 (drop 1 m) r → AssignmentIs allowed m (and_then A.Refused (moved_by 1 r) (λ size. parse_after_name allowed (1 + size) m))
+    go : (r : Parsed) → TextIs 66 0 (drop 1 m) r → AssignmentIs allowed m (and_then Err (moved_by 1 r) (λ size. parse_after_name allowed (1 + size) m))
     go (Err fault) f = refused
     go (Ok k) (TextIs.taken e l h u f) =
         let n = decode16 (drop 1 m) in
@@ -91,19 +88,19 @@ assignment_is allowed m = go (parse_text 66 0 (drop 1 m)) (text_is 66 0 (drop 1 
         rw place
         (after_name_is allowed m n (record { name_fits = omega arith; name_text = name }) refl)
 
-pub assignment_taken : (allowed : ℕ → Bool) (m : List ℕ) (n t id q v : ℕ) → parse_assignment allowed m ≡ A.Assignment t id q n v
+pub assignment_taken : (allowed : ℕ → Bool) (m : List ℕ) (n t id q v : ℕ) → parse_assignment allowed m ≡ an_assignment t id q n v
     → (allowed id ≡ true) × (8 + n + v ≤ length m) × ((number : ℕ) → WellFormed (entry_in n t number v m))
 assignment_taken allowed m n t id q v e = go (rw e at (assignment_is allowed m))
   where
-    go : AssignmentIs allowed m (A.Assignment t id q n v) → (allowed id ≡ true) × (8 + n + v ≤ length m) × ((number : ℕ) → WellFormed (entry_in n t number v m))
+    go : AssignmentIs allowed m (an_assignment t id q n v) → (allowed id ≡ true) × (8 + n + v ≤ length m) × ((number : ℕ) → WellFormed (entry_in n t number v m))
     go (AssignmentIs.taken a h w f) = (a, h, w)
 
 -- ---- an update
 
 pub data UpdateIs (held : ℕ → Bool) (type_of : ℕ → ℕ) (m : List ℕ) : UpdateRead → Type 0 where
-  refused : {fault : Fault} → UpdateIs held type_of m (U.Refused fault)
+  refused : {fault : Fault} → UpdateIs held type_of m (Err fault)
   taken : {id q v : ℕ} → held id ≡ true → 5 + v ≤ length m → IsValue (type_of id) (take v (drop 5 m)) → id ≡ decode16 (drop 1 m) → q ≡ decode16 (drop 3 m)
-      → UpdateIs held type_of m (U.Update id q v)
+      → UpdateIs held type_of m (an_update id q v)
 
 pub update_is : (held : ℕ → Bool) (type_of : ℕ → ℕ) (m : List ℕ) → UpdateIs held type_of m (parse_update held type_of m)
 unfolding parse_behind_update_id parse_update parse_value_at
@@ -115,17 +112,17 @@ update_is held type_of m =
     P = UpdateIs held type_of m
 
     go : held (decode16 (drop 1 m)) ≡ true → 5 ≤ length m → (r : Parsed) → parse_value (type_of (decode16 (drop 1 m))) (drop 5 m) ≡ r
-        → P (and_then U.Refused (moved_by 5 r) (λ v. U.Update (decode16 (drop 1 m)) (decode16 (drop 3 m)) v))
+        → P (and_then Err (moved_by 5 r) (λ v. an_update (decode16 (drop 1 m)) (decode16 (drop 3 m)) v))
     go h l (Err fault) e = UpdateIs.refused
     go h l (Ok v) e =
         let all_there : 5 + v ≤ length m = omega (arith, value_fits (type_of (decode16 (drop 1 m))) (drop 5 m) v e, length-drop 5 m) in
         UpdateIs.taken h all_there (value_whole (type_of (decode16 (drop 1 m))) (drop 5 m) v e) refl refl
 
-pub update_taken : (held : ℕ → Bool) (type_of : ℕ → ℕ) (m : List ℕ) (id q v : ℕ) → parse_update held type_of m ≡ U.Update id q v
+pub update_taken : (held : ℕ → Bool) (type_of : ℕ → ℕ) (m : List ℕ) (id q v : ℕ) → parse_update held type_of m ≡ an_update id q v
     → (held id ≡ true) × (5 + v ≤ length m) × IsValue (type_of id) (take v (drop 5 m))
 update_taken held type_of m id q v e = go (rw e at (update_is held type_of m))
   where
-    go : UpdateIs held type_of m (U.Update id q v) → (held id ≡ true) × (5 + v ≤ length m) × IsValue (type_of id) (take v (drop 5 m))
+    go : UpdateIs held type_of m (an_update id q v) → (held id ≡ true) × (5 + v ≤ length m) × IsValue (type_of id) (take v (drop 5 m))
     go (UpdateIs.taken a h w i n) = (a, h, w)
 
 -- ---- how long name and value are
@@ -133,14 +130,14 @@ update_taken held type_of m id q v e = go (rw e at (update_is held type_of m))
 pub part_length : (from n : ℕ) (m : List ℕ) → from + n ≤ length m → length (take n (drop from m)) ≡ n
 part_length from n m h = simp (length-take, length-drop) (omega arith)
 
-pub assignment_fits : (allowed : ℕ → Bool) (m : List ℕ) (n t id q v : ℕ) → parse_assignment allowed m ≡ A.Assignment t id q n v
+pub assignment_fits : (allowed : ℕ → Bool) (m : List ℕ) (n t id q v : ℕ) → parse_assignment allowed m ≡ an_assignment t id q n v
     → (8 + n + v ≤ length m) × (n ≤ max_name_length) × (v ≤ max_value_size)
 assignment_fits allowed m n t id q v e =
     let w = assignment_taken allowed m n t id q v e in
     let f = w.2 0 in
     (w.1, omega (arith, f.name_fits, part_length 3 n m (omega (arith, w.1))), omega (arith, value_small t (take v (drop (8 + n) m)) (length (take v (drop (8 + n) m))) f.value_whole, part_length (8 + n) v m w.1))
 
-pub update_fits : (held : ℕ → Bool) (type_of : ℕ → ℕ) (m : List ℕ) (id q v : ℕ) → parse_update held type_of m ≡ U.Update id q v
+pub update_fits : (held : ℕ → Bool) (type_of : ℕ → ℕ) (m : List ℕ) (id q v : ℕ) → parse_update held type_of m ≡ an_update id q v
     → (held id ≡ true) × (5 + v ≤ length m) × (v ≤ max_value_size)
 update_fits held type_of m id q v e =
     let w = update_taken held type_of m id q v e in

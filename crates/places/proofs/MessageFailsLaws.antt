@@ -1,4 +1,5 @@
 -- What is true at the place that a message is refused with.
+use Rattle.message.specs.Read.{AssignmentRead, UpdateRead, an_assignment, an_update, Reading}
 use Rattle.std.specs.Prelude.{Err, Ok}
 use mathlib.Core.Path.{◌≡◌, refl, sym, ◌∙◌}
 use mathlib.Core.Bool.{Bool, true, false, false≢true}
@@ -32,36 +33,31 @@ use Rattle.message.specs.Layout.{assignment_kind, update_kind}
 use Rattle.message.specs.Reader.{id_allowed, parse_behind_id, parse_after_name, parse_assignment, parse_behind_update_id, parse_update, parse_revision, of_assignment, type_given, of_update, parse_by_kind, parse_message, number_of, place_of}
 use Rattle.places.specs.MessageFails.{name_length_in, type_start, value_start, assignment_id_in, update_id_in, NameStands, TypeStands, AssignmentFailsAt, AssignmentFails, AssignmentFailing, UpdateFailsAt, UpdateFails, UpdateFailing, MessageFailsAt, PlaceInMessage, ReadingFailsAt, ReadingTells}
 use Rattle.message.specs.declared.AllowedId.TheVariants.{Any}
-use Rattle.message.specs.declared.AssignmentRead.{AssignmentRead}
-use Rattle.message.specs.declared.AssignmentRead.TheVariants as A
-use Rattle.message.specs.declared.UpdateRead.{UpdateRead}
-use Rattle.message.specs.declared.UpdateRead.TheVariants as U
-use Rattle.message.specs.declared.Decoded.{Decoded}
 use Rattle.message.specs.declared.Decoded.TheVariants as D
 
 -- ---- an assignment
 
 pub data AssignmentRefuses (allowed : ℕ → Bool) (m : List ℕ) : AssignmentRead → Type 0 where
-  refused : {fault : Fault} → AssignmentFailsAt allowed m fault.number fault.place → AssignmentRefuses allowed m (A.Refused fault)
-  taken : {n t id q v : ℕ} → AssignmentRefuses allowed m (A.Assignment t id q n v)
+  refused : {fault : Fault} → AssignmentFailsAt allowed m fault.number fault.place → AssignmentRefuses allowed m (Err fault)
+  taken : {n t id q v : ℕ} → AssignmentRefuses allowed m (an_assignment t id q n v)
 
 module _ (allowed : ℕ → Bool) (m : List ℕ) where
   P : AssignmentRead → Type 0
   P = AssignmentRefuses allowed m
 
-  at : (number place : ℕ) → AssignmentFailsAt allowed m number place → P (A.Refused (fault_at number place))
+  at : (number place : ℕ) → AssignmentFailsAt allowed m number place → P (Err (fault_at number place))
   unfolding P
   at number place h = AssignmentRefuses.refused h
 
   value_part : (id q : ℕ) → TypeStands m → allowed (assignment_id_in m) ≡ true → type_start m + 5 ≤ length m
-      → P (and_then A.Refused (parse_value_at (get_or m (type_start m) 0) (type_start m + 5) m) (λ v. A.Assignment (get_or m (type_start m) 0) id q (name_length_in m) v))
+      → P (and_then Err (parse_value_at (get_or m (type_start m) 0) (type_start m + 5) m) (λ v. an_assignment (get_or m (type_start m) 0) id q (name_length_in m) v))
   unfolding P parse_value_at
   value_part id q type ok there =
       let start : type_start m + 5 ≡ value_start m = omega arith in
       rw start (go _ (value_refuses (get_or m (type_start m) 0) (drop (value_start m) m)))
     where
       go : (r : Parsed) → Refuses (ValueFailsAt (get_or m (type_start m) 0) (drop (value_start m) m)) r
-          → P (and_then A.Refused (moved_by (value_start m) r) (λ v. A.Assignment (get_or m (type_start m) 0) id q (name_length_in m) v))
+          → P (and_then Err (moved_by (value_start m) r) (λ v. an_assignment (get_or m (type_start m) 0) id q (name_length_in m) v))
       go (Err fault) (Refuses.refused h) = AssignmentRefuses.refused (AssignmentFailsAt.value type ok (omega arith) h)
       go (Ok v) h = AssignmentRefuses.taken
 
@@ -82,11 +78,11 @@ module _ (allowed : ℕ → Bool) (m : List ℕ) where
           → P (pick (leb (type_start m + 3) (length m))
           (pick (allowed (assignment_id_in m))
           (pick (leb (type_start m + 5) (length m))
-          (and_then A.Refused (parse_value_at (get_or m (type_start m) 0) (type_start m + 5) m)
-          (λ v. A.Assignment (get_or m (type_start m) 0) (assignment_id_in m) (decode16 (drop (type_start m + 3) m)) (name_length_in m) v))
-          (A.Refused (fault_at 1 (type_start m + 3))))
-          (A.Refused (fault_at 5 (type_start m + 1))))
-          (A.Refused (fault_at 1 (type_start m + 1))))
+          (and_then Err (parse_value_at (get_or m (type_start m) 0) (type_start m + 5) m)
+          (λ v. an_assignment (get_or m (type_start m) 0) (assignment_id_in m) (decode16 (drop (type_start m + 3) m)) (name_length_in m) v))
+          (Err (fault_at 1 (type_start m + 3))))
+          (Err (fault_at 5 (type_start m + 1))))
+          (Err (fault_at 1 (type_start m + 1))))
       behind_type type =
           by_test P _ _ _ (λ id.
           by_test P _ _ _ (λ ok.
@@ -100,7 +96,7 @@ module _ (allowed : ℕ → Bool) (m : List ℕ) where
   assignment_refuses = go (parse_text 66 0 (drop 1 m)) (text_is 66 0 (drop 1 m)) (text_refuses 66 0 (drop 1 m))
     where
       go : (r : Parsed) → TextIs 66 0 (drop 1 m) r → Refuses (TextFailsAt 66 0 (drop 1 m)) r
-          → AssignmentRefuses allowed m (and_then A.Refused (moved_by 1 r) (λ size. parse_after_name allowed (1 + size) m))
+          → AssignmentRefuses allowed m (and_then Err (moved_by 1 r) (λ size. parse_after_name allowed (1 + size) m))
       go (Err fault) f (Refuses.refused h) = AssignmentRefuses.refused (AssignmentFailsAt.name h)
       go (Ok k) (TextIs.taken e l h u f) g =
           let place : 1 + k ≡ type_start m = omega arith in
@@ -111,16 +107,16 @@ module _ (allowed : ℕ → Bool) (m : List ℕ) where
 pub assignment_fails : AssignmentFails
 assignment_fails allowed m fault e = go (rw e at (assignment_refuses allowed m))
   where
-    go : AssignmentRefuses allowed m (A.Refused fault) → AssignmentFailsAt allowed m fault.number fault.place
+    go : AssignmentRefuses allowed m (Err fault) → AssignmentFailsAt allowed m fault.number fault.place
     go (AssignmentRefuses.refused h) = h
 
 -- ---- an update
 
 pub data UpdateRefuses (held : ℕ → Bool) (type_of : ℕ → ℕ) (m : List ℕ) : UpdateRead → Type 0 where
   type_unknown : {fault : Fault} → fault.number ≡ unknown_type → held (update_id_in m) ≡ true → known_type (type_of (update_id_in m)) ≡ false
-      → UpdateRefuses held type_of m (U.Refused fault)
-  refused : {fault : Fault} → fault.number ≢ unknown_type → UpdateFailsAt held type_of m fault.number fault.place → UpdateRefuses held type_of m (U.Refused fault)
-  taken : {id q v : ℕ} → UpdateRefuses held type_of m (U.Update id q v)
+      → UpdateRefuses held type_of m (Err fault)
+  refused : {fault : Fault} → fault.number ≢ unknown_type → UpdateFailsAt held type_of m fault.number fault.place → UpdateRefuses held type_of m (Err fault)
+  taken : {id q v : ℕ} → UpdateRefuses held type_of m (an_update id q v)
 
 pub update_refuses : (held : ℕ → Bool) (type_of : ℕ → ℕ) (m : List ℕ) → UpdateRefuses held type_of m (parse_update held type_of m)
 unfolding parse_behind_update_id parse_update parse_value_at
@@ -136,26 +132,26 @@ update_refuses held type_of m =
     type : ℕ
     type = type_of (update_id_in m)
 
-    early : (number place : ℕ) → number < 7 → UpdateFailsAt held type_of m number place → P (U.Refused (fault_at number place))
+    early : (number place : ℕ) → number < 7 → UpdateFailsAt held type_of m number place → P (Err (fault_at number place))
     early number place l h =
         let other : number ≢ 7 = λ e. omega arith in
         UpdateRefuses.refused other h
 
     go : held (update_id_in m) ≡ true → 5 ≤ length m → known_type type ≡ true → (r : Parsed) → Refuses (ValueFailsAt type (drop 5 m)) r
-        → P (and_then U.Refused (moved_by 5 r) (λ v. U.Update (update_id_in m) (decode16 (drop 3 m)) v))
+        → P (and_then Err (moved_by 5 r) (λ v. an_update (update_id_in m) (decode16 (drop 3 m)) v))
     go held-is l known (Err fault) (Refuses.refused h) =
         UpdateRefuses.refused (value_of_known type (drop 5 m) fault.number fault.place known h) (UpdateFailsAt.value held-is known l h)
     go held-is l known (Ok v) h = UpdateRefuses.taken
 
     by_type : held (update_id_in m) ≡ true → 5 ≤ length m → (known : Bool) → known_type type ≡ known
-        → P (and_then U.Refused (moved_by 5 (parse_value type (drop 5 m))) (λ v. U.Update (update_id_in m) (decode16 (drop 3 m)) v))
+        → P (and_then Err (moved_by 5 (parse_value type (drop 5 m))) (λ v. an_update (update_id_in m) (decode16 (drop 3 m)) v))
     by_type h l true k = go h l k _ (value_refuses type (drop 5 m))
     by_type h l false k = rw (value_unknown type (drop 5 m) k) (UpdateRefuses.type_unknown refl h k)
 
 pub update_fails : UpdateFails
 update_fails held type_of m known fault e = go (rw e at (update_refuses held type_of m))
   where
-    go : UpdateRefuses held type_of m (U.Refused fault) → UpdateFailsAt held type_of m fault.number fault.place
+    go : UpdateRefuses held type_of m (Err fault) → UpdateFailsAt held type_of m fault.number fault.place
     go (UpdateRefuses.type_unknown n h k) = absurd (false≢true (sym k ∙ known _ h))
     go (UpdateRefuses.refused n h) = h
 
@@ -236,43 +232,43 @@ place_in_message ids m number place (MessageFailsAt.update k f) tells = go numbe
         omega (arith, value_within (ids.type_of (update_id_in m)) (drop 5 m) number inner known h tells, length-drop 5 m)
 
 module _ (t : ℕ) (m : List ℕ) where
-  Tells : Decoded → Type 0
+  Tells : Reading → Type 0
   Tells d = Told (ReadingFailsAt t m) (number_of d) (place_of d)
 
   of_assignment_lem : get_or m 0 0 ≡ assignment_kind → (a : AssignmentRead) → AssignmentRefuses (id_allowed Any) m a → Tells (of_assignment a)
   unfolding Tells
-  of_assignment_lem k (A.Refused fault) (AssignmentRefuses.refused h) = told _ fault (λ _. ReadingFailsAt.in_message (MessageFailsAt.assignment k h))
-  of_assignment_lem k (A.Assignment type id number n v) h = untold _ 0 (λ tells. omega arith)
+  of_assignment_lem k (Err fault) (AssignmentRefuses.refused h) = told _ fault (λ _. ReadingFailsAt.in_message (MessageFailsAt.assignment k h))
+  of_assignment_lem k (Ok read) h = untold _ 0 (λ tells. omega arith)
 
   of_update_lem : get_or m 0 0 ≡ update_kind → (u : UpdateRead) → UpdateRefuses (id_allowed Any) (λ _. t) m u → Tells (of_update u)
   unfolding Tells pick
-  of_update_lem k (U.Refused fault) (UpdateRefuses.type_unknown n h unknown) =
+  of_update_lem k (Err fault) (UpdateRefuses.type_unknown n h unknown) =
       told _ (type_given fault) (λ _. rw n (ReadingFailsAt.type_given_case k unknown))
-  of_update_lem k (U.Refused fault) (UpdateRefuses.refused n h) =
+  of_update_lem k (Err fault) (UpdateRefuses.refused n h) =
       told _ (type_given fault) (λ _. rw (ne_eqb fault.number 7 n) (ReadingFailsAt.in_message (MessageFailsAt.update k h)))
-  of_update_lem k (U.Update id number v) h = untold _ 0 (λ tells. omega arith)
+  of_update_lem k (Ok read) h = untold _ 0 (λ tells. omega arith)
 
-  none : (d : Decoded) → number_of d ≡ 0 → place_of d ≡ 0 → Tells d
+  none : (d : Reading) → number_of d ≡ 0 → place_of d ≡ 0 → Tells d
   unfolding Tells
   none d n p = rw (n, p) (untold _ 0 (λ tells. omega arith))
 
-  early : (number place : ℕ) → number < 7 → Tells (D.Refused (fault_at number place))
+  early : (number place : ℕ) → number < 7 → Tells (Err (fault_at number place))
   unfolding Tells
   early number place h = told _ (fault_at number place) (λ tells. absurd (omega arith))
 
   of_revision : (isHello : Bool) → Tells (parse_revision isHello m)
   unfolding parse_revision
   of_revision isHello =
-      by_test Tells _ _ _ (λ _. by_test Tells isHello _ _ (λ _. none (D.Hello _) refl refl) (λ _. none (D.Unsupported _) refl refl)) (λ _. early 1 1 (omega arith))
+      by_test Tells _ _ _ (λ _. by_test Tells isHello _ _ (λ _. none (Ok (D.Hello _)) refl refl) (λ _. none (Ok (D.Unsupported _)) refl refl)) (λ _. early 1 1 (omega arith))
 
   tells : Tells (parse_message t m)
   unfolding parse_message parse_by_kind
   tells =
       by_test Tells _ _ _ (λ _.
-      by_test Tells _ _ _ (λ _. none D.KeepAlive refl refl) (λ _.
+      by_test Tells _ _ _ (λ _. none (Ok D.KeepAlive) refl refl) (λ _.
       by_test Tells _ _ _ (λ _. of_revision true) (λ _.
       by_test Tells _ _ _ (λ _. of_revision false) (λ _.
-      by_test Tells _ _ _ (λ _. none D.HelloComplete refl refl) (λ _.
+      by_test Tells _ _ _ (λ _. none (Ok D.HelloComplete) refl refl) (λ _.
       by_test Tells _ _ _ (λ k. of_assignment_lem (eqb-true _ _ k) _ (assignment_refuses (id_allowed Any) m)) (λ _.
       by_test Tells _ _ _ (λ k. of_update_lem (eqb-true _ _ k) _ (update_refuses (id_allowed Any) (λ _. t) m)) (λ _. early 4 0 (omega arith))))))))
       (λ _. early 1 0 (omega arith))

@@ -1,4 +1,6 @@
 -- What is true at the place that a call of either half tells.
+use Rattle.std.specs.Prelude.{Ok, Err}
+use Rattle.message.specs.Read.{AssignmentRead, UpdateRead}
 use mathlib.Core.Path.{◌≡◌, refl, sym, ◌∙◌}
 use mathlib.Core.Bool.{Bool, true, false, and-eq-true_iff, false≢true}
 use mathlib.Core.List.{List}
@@ -19,10 +21,6 @@ use Rattle.message.specs.Layout.{Entry, assignment_kind, update_kind}
 use Rattle.places.specs.MessageFails.{MessageFailsAt}
 use Rattle.message.specs.Reader.{id_allowed}
 use Rattle.message.specs.declared.AllowedId.TheVariants.{Only}
-use Rattle.message.specs.declared.AssignmentRead.{AssignmentRead}
-use Rattle.message.specs.declared.AssignmentRead.TheVariants as A
-use Rattle.message.specs.declared.UpdateRead.{UpdateRead}
-use Rattle.message.specs.declared.UpdateRead.TheVariants as U
 use Rattle.places.proofs.MessageFailsLaws.{AssignmentRefuses, assignment_refuses, UpdateRefuses, update_refuses, place_in_message}
 use Rattle.places.proofs.WriterFailsLaws.{entry_refuses, lone_then}
 use Rattle.table.specs.Table.{TableMemory, entries_of}
@@ -86,17 +84,17 @@ module _ (limit : ℕ) (es : List Entry) (known : KnownTypes es) where
   assignment_fails : (c : ℕ) (m : List ℕ) → get_or m 0 0 ≡ assignment_kind → (r : AssignmentRead) → AssignmentRefuses (id_allowed (Only new_id)) m r
       → VerdictFails (CallFailsAt es (client_message c m)) (judge_assignment limit es m r)
   unfolding judge_assignment
-  assignment_fails c m k (A.Refused fault) (AssignmentRefuses.refused h) = refused (λ _. CallFailsAt.in_message (MessageFailsAt.assignment k h))
-  assignment_fails c m k (A.Assignment t id q n v) h =
+  assignment_fails c m k (Err fault) (AssignmentRefuses.refused h) = refused (λ _. CallFailsAt.in_message (MessageFailsAt.assignment k h))
+  assignment_fails c m k (Ok read) h =
       by_test (VerdictFails (CallFailsAt es (client_message c m))) _ _ _ (λ _. ignored) (λ _.
       by_test (VerdictFails (CallFailsAt es (client_message c m))) _ _ _ (λ _. created) (λ _. no_field _ 11 0 (λ tells. omega arith)))
 
   update_fails : (c : ℕ) (m : List ℕ) → get_or m 0 0 ≡ update_kind → (r : UpdateRead) → UpdateRefuses (λ id. ltb id (length es)) (stored_type es) m r
       → VerdictFails (CallFailsAt es (client_message c m)) (judge_update c es m r)
   unfolding judge_update KnownTypes
-  update_fails c m k (U.Refused fault) (UpdateRefuses.type_unknown n h u) = absurd (false≢true (sym u ∙ known _ (ltb-true _ _ h)))
-  update_fails c m k (U.Refused fault) (UpdateRefuses.refused n h) = refused (λ _. CallFailsAt.in_message (MessageFailsAt.update k h))
-  update_fails c m k (U.Update id q v) h = by_test (VerdictFails (CallFailsAt es (client_message c m))) _ _ _ (λ _. updated) (λ _. ignored)
+  update_fails c m k (Err fault) (UpdateRefuses.type_unknown n h u) = absurd (false≢true (sym u ∙ known _ (ltb-true _ _ h)))
+  update_fails c m k (Err fault) (UpdateRefuses.refused n h) = refused (λ _. CallFailsAt.in_message (MessageFailsAt.update k h))
+  update_fails c m k (Ok read) h = by_test (VerdictFails (CallFailsAt es (client_message c m))) _ _ _ (λ _. updated) (λ _. ignored)
 
   message_fails : (c mark : ℕ) (m : List ℕ) → VerdictFails (CallFailsAt es (client_message c m)) (judge_message limit es c mark m)
   unfolding judge_message judge_kind judge_hello
@@ -206,16 +204,16 @@ module _ (limit : ℕ) (es : List Entry) (known : KnownTypes es) (m : List ℕ) 
 
   copy_assignment_fails : get_or m 0 0 ≡ assignment_kind → (r : AssignmentRead) → AssignmentRefuses (id_allowed (Only (length es))) m r → P (judge_copy_assignment limit es m r)
   unfolding P judge_copy_assignment
-  copy_assignment_fails k (A.Refused fault) (AssignmentRefuses.refused h) = CopyFails.refused (λ _. MessageFailsAt.assignment k h)
-  copy_assignment_fails k (A.Assignment t id q n v) h =
+  copy_assignment_fails k (Err fault) (AssignmentRefuses.refused h) = CopyFails.refused (λ _. MessageFailsAt.assignment k h)
+  copy_assignment_fails k (Ok read) h =
       by_test P _ _ _ (λ _. no_copy_field 13 0 (λ tells. omega arith)) (λ _.
       by_test P _ _ _ (λ _. CopyFails.created) (λ _. no_copy_field 11 0 (λ tells. omega arith)))
 
   copy_update_fails : get_or m 0 0 ≡ update_kind → (r : UpdateRead) → UpdateRefuses (λ id. ltb id (length es)) (stored_type es) m r → P (judge_copy_update m r)
   unfolding P judge_copy_update KnownTypes
-  copy_update_fails k (U.Refused fault) (UpdateRefuses.type_unknown n h u) = absurd (false≢true (sym u ∙ known _ (ltb-true _ _ h)))
-  copy_update_fails k (U.Refused fault) (UpdateRefuses.refused n h) = CopyFails.refused (λ _. MessageFailsAt.update k h)
-  copy_update_fails k (U.Update id q v) h = CopyFails.updated
+  copy_update_fails k (Err fault) (UpdateRefuses.type_unknown n h u) = absurd (false≢true (sym u ∙ known _ (ltb-true _ _ h)))
+  copy_update_fails k (Err fault) (UpdateRefuses.refused n h) = CopyFails.refused (λ _. MessageFailsAt.update k h)
+  copy_update_fails k (Ok read) h = CopyFails.updated
 
   copy_fails : CopyFails (MessageFailsAt (copy_ids es) m) (judge_copy limit es m)
   unfolding P judge_copy judge_copy_kind

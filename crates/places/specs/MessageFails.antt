@@ -1,5 +1,5 @@
 -- "Every call that reads a value or name passes the place on, counted from the start of the message". Proved in proofs/MessageFailsLaws.antt.
-use Rattle.std.specs.Prelude.{ℕ, ◌+◌, ◌≤◌, ◌<◌, Bool, true, false, List, ◌≡◌, length, drop, get_or}
+use Rattle.std.specs.Prelude.{ℕ, ◌+◌, ◌≤◌, ◌<◌, Bool, true, false, List, ◌≡◌, length, drop, get_or, Err}
 use Rattle.field.specs.Answer.{incomplete, wrong_id, unknown_id, unknown_type}
 use Rattle.field.specs.Octets.{decode16}
 use Rattle.field.specs.Field.{fault_at, octet_size}
@@ -13,8 +13,6 @@ use Rattle.value.specs.Fails.{ValueFailsAt}
 use Rattle.message.specs.Layout.{max_name_length, assignment_kind, update_kind, kind_size, assignment_name_start, id_behind_name, number_behind_name, assignment_fixed, update_number_start, update_value_start}
 use Rattle.message.specs.Reader.{id_allowed, parse_assignment, parse_update, parse_message, name_in, number_of, place_of}
 use Rattle.message.specs.declared.AllowedId.TheVariants.{Any}
-use Rattle.message.specs.declared.AssignmentRead.TheVariants as A
-use Rattle.message.specs.declared.UpdateRead.TheVariants as U
 use Rattle.message.specs.declared.Decoded.TheVariants as D
 
 -- the IDs that a reader takes: an assignment's, and an update's with the type of its value
@@ -72,12 +70,12 @@ pub data AssignmentFailsAt (allowed : ℕ → Bool) (m : List ℕ) : (number pla
 
 abbrev pub AssignmentFails : Type 0
 AssignmentFails =
-    (allowed : ℕ → Bool) (m : List ℕ) (fault : Fault) → parse_assignment allowed m ≡ A.Refused fault → AssignmentFailsAt allowed m fault.number fault.place
+    (allowed : ℕ → Bool) (m : List ℕ) (fault : Fault) → parse_assignment allowed m ≡ Err fault → AssignmentFailsAt allowed m fault.number fault.place
 
 -- and the other way: where it fails so, the assignment is refused so
 abbrev pub AssignmentFailing : Type 0
 AssignmentFailing =
-    (allowed : ℕ → Bool) (m : List ℕ) (number place : ℕ) → AssignmentFailsAt allowed m number place → parse_assignment allowed m ≡ A.Refused (fault_at number place)
+    (allowed : ℕ → Bool) (m : List ℕ) (number place : ℕ) → AssignmentFailsAt allowed m number place → parse_assignment allowed m ≡ Err (fault_at number place)
 
 -- ---- an update: "ID (2), number (2), value"
 
@@ -98,12 +96,12 @@ pub data UpdateFailsAt (held : ℕ → Bool) (type_of : ℕ → ℕ) (m : List �
 abbrev pub UpdateFails : Type 0
 UpdateFails =
     (held : ℕ → Bool) (type_of : ℕ → ℕ) (m : List ℕ) → ((id : ℕ) → held id ≡ true → known_type (type_of id) ≡ true)
-    → (fault : Fault) → parse_update held type_of m ≡ U.Refused fault → UpdateFailsAt held type_of m fault.number fault.place
+    → (fault : Fault) → parse_update held type_of m ≡ Err fault → UpdateFailsAt held type_of m fault.number fault.place
 
 abbrev pub UpdateFailing : Type 0
 UpdateFailing =
     (held : ℕ → Bool) (type_of : ℕ → ℕ) (m : List ℕ) (number place : ℕ) → UpdateFailsAt held type_of m number place
-    → parse_update held type_of m ≡ U.Refused (fault_at number place)
+    → parse_update held type_of m ≡ Err (fault_at number place)
 
 -- ---- a message
 

@@ -1,4 +1,6 @@
 -- The client half: what is known of its verdict, that it makes progress and keeps a sound copy sound, and what it makes of a server's messages.
+use Rattle.std.specs.Prelude.{Ok, Err}
+use Rattle.message.specs.Read.{AssignmentRead, UpdateRead}
 use mathlib.Core.Path.{◌≡◌, refl, ap, ◌∙◌}
 use mathlib.Core.Logic.{◌⊎◌, inl, inr}
 use mathlib.Core.Bool.{Bool, true, false}
@@ -19,10 +21,6 @@ use Rattle.value.specs.Value.{IsValue}
 use Rattle.message.specs.Layout.{Entry, Message, keep_alive, hello, unsupported, hello_complete, assignment, update, layout, WellFormed, keep_alive_kind, unsupported_kind, hello_complete_kind, assignment_kind, update_kind, assignment_bytes, update_bytes, revision_bytes}
 use Rattle.message.specs.Reader.{id_allowed, parse_assignment}
 use Rattle.message.specs.declared.AllowedId.TheVariants.{Only}
-use Rattle.message.specs.declared.AssignmentRead.{AssignmentRead}
-use Rattle.message.specs.declared.AssignmentRead.TheVariants as A
-use Rattle.message.specs.declared.UpdateRead.{UpdateRead}
-use Rattle.message.specs.declared.UpdateRead.TheVariants as U
 use Rattle.message.proofs.TakenLaws.{AssignmentIs, assignment_is, UpdateIs, update_is}
 use Rattle.message.proofs.ReadBack.{assignment_back, name_back, value_back_at, update_back, update_value_back, length_assignment, length_update}
 use Rattle.table.specs.Names.{name_held}
@@ -50,15 +48,15 @@ pub data CopyVerdictIs (limit : ℕ) (es : List Entry) (m : List ℕ) : CopyVerd
 module _ (limit : ℕ) (es : List Entry) (m : List ℕ) where
   assignment_verdict : (allowed : ℕ → Bool) (r : AssignmentRead) → AssignmentIs allowed m r → AssignmentRefused r → CopyVerdictIs limit es m (judge_copy_assignment limit es m r)
   unfolding judge_copy_assignment
-  assignment_verdict allowed (A.Refused fault) f (AssignmentRefused.refused n) = refused n
-  assignment_verdict allowed (A.Assignment t id q n v) (AssignmentIs.taken a h w f) g =
+  assignment_verdict allowed (Err fault) f (AssignmentRefused.refused n) = refused n
+  assignment_verdict allowed (Ok read) (AssignmentIs.taken a h w f) g =
       by_test (CopyVerdictIs limit es m) _ _ _ (λ _. refused (refusal_number 13 (omega arith) (omega arith))) (λ new.
-      by_test (CopyVerdictIs limit es m) _ _ _ (λ l. created (w q) new (ltb-true _ _ l) (omega arith) h) (λ _. refused (refusal_number 11 (omega arith) (omega arith))))
+      by_test (CopyVerdictIs limit es m) _ _ _ (λ l. created (w read.number) new (ltb-true _ _ l) (omega arith) h) (λ _. refused (refusal_number 11 (omega arith) (omega arith))))
 
   update_verdict : (r : UpdateRead) → UpdateIs (λ id. ltb id (length es)) (λ id. (get_or es id default_entry).type) m r → UpdateRefused r → CopyVerdictIs limit es m (judge_copy_update m r)
   unfolding judge_copy_update
-  update_verdict (U.Refused fault) f (UpdateRefused.refused n) = refused n
-  update_verdict (U.Update id q v) (UpdateIs.taken h n w i q') g = updated {taken = 5 + v} (ltb-true _ _ h) w (omega arith) n
+  update_verdict (Err fault) f (UpdateRefused.refused n) = refused n
+  update_verdict (Ok read) (UpdateIs.taken h n w i q') g = updated {taken = 5 + read.value_length} (ltb-true _ _ h) w (omega arith) n
 
   pub copy_verdict_is : CopyVerdictIs limit es m (judge_copy limit es m)
   unfolding judge_copy judge_copy_kind

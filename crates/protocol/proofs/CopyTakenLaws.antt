@@ -1,4 +1,6 @@
 -- The copy takes the message that stands first, and looks at nothing behind it.
+use Rattle.std.specs.Prelude.{Ok, Err}
+use Rattle.message.specs.Read.{AssignmentRead, UpdateRead}
 use mathlib.Core.Path.{◌≡◌, refl, sym, ap, ◌∙◌}
 use mathlib.Core.Logic.{◌⊎◌}
 use mathlib.Core.Bool.{true}
@@ -15,10 +17,6 @@ use Rattle.field.proofs.ChoiceLaws.{by_test}
 use Rattle.message.specs.Layout.{Entry, Message, keep_alive, hello, unsupported, hello_complete, assignment, update, layout, keep_alive_kind, unsupported_kind, hello_complete_kind, WellFormedMessage}
 use Rattle.message.specs.Reader.{id_allowed, Bytes, BeginsWith}
 use Rattle.message.specs.declared.AllowedId.TheVariants.{Only}
-use Rattle.message.specs.declared.AssignmentRead.{AssignmentRead}
-use Rattle.message.specs.declared.AssignmentRead.TheVariants as A
-use Rattle.message.specs.declared.UpdateRead.{UpdateRead}
-use Rattle.message.specs.declared.UpdateRead.TheVariants as U
 use Rattle.message.proofs.ReadBack.{length_revision}
 use Rattle.message.proofs.FirstLaws.{AssignmentFirst, assignment_first, UpdateFirst, update_first}
 use Rattle.message.proofs.ReadBytesLaws.{revision_stands, kind_stands}
@@ -51,13 +49,13 @@ data Judged (es : List Entry) (m : List ℕ) : CopyVerdict → Type 0 where
 module _ (limit : ℕ) (es : List Entry) (m : List ℕ) (b : Bytes m) where
   assignment_judged : (r : AssignmentRead) → AssignmentFirst (id_allowed (Only (length es))) m r → Judged es m (judge_copy_assignment limit es m r)
   unfolding judge_copy_assignment
-  assignment_judged (A.Refused fault) f = refused
-  assignment_judged (A.Assignment t id q n v) (AssignmentFirst.taken a w f l) = taken (assignment id _) (eqb-true id (length es) a, w) f
+  assignment_judged (Err fault) f = refused
+  assignment_judged (Ok read) (AssignmentFirst.taken a w f l) = taken (assignment read.id _) (eqb-true read.id (length es) a, w) f
 
   update_judged : (r : UpdateRead) → UpdateFirst (λ i. ltb i (length es)) (λ i. (get_or es i default_entry).type) m r → Judged es m (judge_copy_update m r)
   unfolding judge_copy_update
-  update_judged (U.Refused fault) f = refused
-  update_judged (U.Update id q v) (UpdateFirst.taken h w f l) = taken (update id q _) (ltb-true _ _ h, w) f
+  update_judged (Err fault) f = refused
+  update_judged (Ok read) (UpdateFirst.taken h w f l) = taken (update read.id read.number _) (ltb-true _ _ h, w) f
 
   message_judged : Judged es m (judge_copy limit es m)
   unfolding judge_copy judge_copy_kind layout

@@ -1,4 +1,5 @@
 -- What is known of a call's verdict: whom and what it concerns is as the rules have it.
+use Rattle.message.specs.Read.{AssignmentRead, UpdateRead}
 use Rattle.std.specs.Prelude.{Err, Ok}
 use mathlib.Core.Path.{◌≡◌, refl}
 use mathlib.Core.Bool.{Bool, false}
@@ -18,10 +19,6 @@ use Rattle.value.proofs.ValueLaws.{LoneIs, lone_is}
 use Rattle.message.specs.Layout.{Entry, WellFormed, update_kind}
 use Rattle.message.specs.Reader.{id_allowed}
 use Rattle.message.specs.declared.AllowedId.TheVariants.{Only}
-use Rattle.message.specs.declared.AssignmentRead.{AssignmentRead}
-use Rattle.message.specs.declared.AssignmentRead.TheVariants as A
-use Rattle.message.specs.declared.UpdateRead.{UpdateRead}
-use Rattle.message.specs.declared.UpdateRead.TheVariants as U
 use Rattle.message.proofs.TakenLaws.{AssignmentIs, assignment_is, UpdateIs, update_is}
 use Rattle.writer.specs.Writer.{check_name}
 use Rattle.writer.proofs.WriterLaws.{NameIs, name_is}
@@ -63,16 +60,16 @@ module _ (limit : ℕ) (es : List Entry) (marks : List ℕ) where
   assignment_verdict : (call : Call) (allowed : ℕ → Bool) (m : List ℕ) (r : AssignmentRead) → AssignmentIs allowed m r → AssignmentRefused r
       → VerdictIs limit es marks call (judge_assignment limit es m r)
   unfolding judge_assignment
-  assignment_verdict call allowed m (A.Refused fault) f (AssignmentRefused.refused n) = refused n
-  assignment_verdict call allowed m (A.Assignment t id q n v) (AssignmentIs.taken a h w f) g =
+  assignment_verdict call allowed m (Err fault) f (AssignmentRefused.refused n) = refused n
+  assignment_verdict call allowed m (Ok read) (AssignmentIs.taken a h w f) g =
       by_test (VerdictIs limit es marks call) _ _ _ (λ _. ignored) (λ new.
       by_test (VerdictIs limit es marks call) _ _ _ (λ l. created (w _) new (ltb-true _ _ l)) (λ _. refusal call 11 (omega arith) (omega arith)))
 
   update_verdict : (c : ℕ) (m : List ℕ) → 1 ≤ length m → get_or m 0 0 ≡ update_kind → (r : UpdateRead)
       → UpdateIs (λ id. ltb id (length es)) (λ id. (get_or es id default_entry).type) m r → UpdateRefused r → VerdictIs limit es marks (client_message c m) (judge_update c es m r)
   unfolding judge_update
-  update_verdict c m l k (U.Refused fault) f (UpdateRefused.refused h) = refused h
-  update_verdict c m l k (U.Update id q v) (UpdateIs.taken h n w i q') g =
+  update_verdict c m l k (Err fault) f (UpdateRefused.refused h) = refused h
+  update_verdict c m l k (Ok read) (UpdateIs.taken h n w i q') g =
       by_test (VerdictIs limit es marks (client_message c m)) _ _ _ (λ _. updated (ltb-true _ _ h) w (client_update refl l k)) (λ _. ignored)
 
   pub message_verdict : (c : ℕ) (m : List ℕ) → c < 16 → VerdictIs limit es marks (client_message c m) (judge_message limit es c (get_or marks c 0) m)

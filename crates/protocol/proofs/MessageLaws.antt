@@ -1,4 +1,6 @@
 -- A client's message: what the server makes of it depends on the message that stands first, and on nothing behind it.
+use Rattle.std.specs.Prelude.{Ok, Err}
+use Rattle.message.specs.Read.{AssignmentRead, UpdateRead}
 use mathlib.Core.Path.{◌≡◌, refl, sym, ap, ◌∙◌}
 use mathlib.Core.Logic.{◌≢◌}
 use mathlib.Core.Bool.{true, false, ◌&&◌, and-eq-true_iff}
@@ -19,10 +21,6 @@ use Rattle.value.specs.Value.{IsValue}
 use Rattle.message.specs.Layout.{Entry, Message, keep_alive, hello, unsupported, hello_complete, assignment, update, keep_alive_kind, hello_kind, assignment_kind, update_kind, assignment_bytes, update_bytes, revision_bytes, layout, WellFormed}
 use Rattle.message.specs.Reader.{id_allowed, parse_assignment, Bytes, BeginsWith}
 use Rattle.message.specs.declared.AllowedId.TheVariants.{Only}
-use Rattle.message.specs.declared.AssignmentRead.{AssignmentRead}
-use Rattle.message.specs.declared.AssignmentRead.TheVariants as A
-use Rattle.message.specs.declared.UpdateRead.{UpdateRead}
-use Rattle.message.specs.declared.UpdateRead.TheVariants as U
 use Rattle.message.proofs.ReadBack.{assignment_back, name_back, value_back_at, update_back, update_value_back, length_assignment, length_update}
 use Rattle.message.proofs.FirstLaws.{AssignmentFirst, assignment_first, UpdateFirst, update_first}
 use Rattle.message.proofs.ReadBytesLaws.{revision_stands, kind_stands}
@@ -145,13 +143,13 @@ data Judged (es : List Entry) (m : List ℕ) : Verdict → Type 0 where
 module _ (limit : ℕ) (es : List Entry) (m : List ℕ) (b : Bytes m) where
   assignment_judged : (r : AssignmentRead) → AssignmentFirst (id_allowed (Only new_id)) m r → Judged es m (judge_assignment limit es m r)
   unfolding judge_assignment
-  assignment_judged (A.Refused fault) f = refused
-  assignment_judged (A.Assignment t id q n v) (AssignmentFirst.taken a w f l) = taken (assignment id _) (eqb-true id new_id a, w) f
+  assignment_judged (Err fault) f = refused
+  assignment_judged (Ok read) (AssignmentFirst.taken a w f l) = taken (assignment read.id _) (eqb-true read.id new_id a, w) f
 
   update_judged : (c : ℕ) (r : UpdateRead) → UpdateFirst (λ i. ltb i (length es)) (λ i. (get_or es i default_entry).type) m r → Judged es m (judge_update c es m r)
   unfolding judge_update
-  update_judged c (U.Refused fault) f = refused
-  update_judged c (U.Update id q v) (UpdateFirst.taken h w f l) = taken (update id q _) (ltb-true _ _ h, w) f
+  update_judged c (Err fault) f = refused
+  update_judged c (Ok read) (UpdateFirst.taken h w f l) = taken (update read.id read.number _) (ltb-true _ _ h, w) f
 
   message_judged : (c mark : ℕ) → Judged es m (judge_message limit es c mark m)
   unfolding judge_message judge_kind judge_hello layout

@@ -1,4 +1,6 @@
 -- What a client's message takes is there, and what it sends has room.
+use Rattle.std.specs.Prelude.{Ok, Err}
+use Rattle.message.specs.Read.{AssignmentRead, UpdateRead}
 use mathlib.Core.Path.{◌≡◌, refl, ap, ◌∙◌}
 use mathlib.Core.Logic.{inl}
 use mathlib.Core.Bool.{Bool, true, and-eq-true_iff}
@@ -18,10 +20,6 @@ use Rattle.field.proofs.OverwriteLaws.{length_overwrite, overwrite_eq}
 use Rattle.message.specs.Layout.{Entry, assignment_bytes, update_bytes, revision_bytes}
 use Rattle.message.specs.Reader.{id_allowed}
 use Rattle.message.specs.declared.AllowedId.TheVariants.{Only}
-use Rattle.message.specs.declared.AssignmentRead.{AssignmentRead}
-use Rattle.message.specs.declared.AssignmentRead.TheVariants as A
-use Rattle.message.specs.declared.UpdateRead.{UpdateRead}
-use Rattle.message.specs.declared.UpdateRead.TheVariants as U
 use Rattle.message.proofs.ReadBack.{length_assignment, length_update, length_revision, longest_assignment_lem, longest_update_lem}
 use Rattle.message.proofs.RefusalLaws.{refusal_number}
 use Rattle.message.proofs.TakenLaws.{AssignmentIs, assignment_is, UpdateIs, update_is}
@@ -55,14 +53,14 @@ hello_within c mark m =
 
 assignment_within : (limit : ℕ) (es : List Entry) (m : List ℕ) (r : AssignmentRead) → AssignmentIs (id_allowed (Only 0xFFFF)) m r → Within (length m) (judge_assignment limit es m r)
 unfolding judge_assignment
-assignment_within limit es m (A.Refused fault) f = refused
-assignment_within limit es m (A.Assignment t id q n v) (AssignmentIs.taken a h w f) =
+assignment_within limit es m (Err fault) f = refused
+assignment_within limit es m (Ok read) (AssignmentIs.taken a h w f) =
     by_test (Within (length m)) _ _ _ (λ _. ignored (omega arith) h) (λ _. by_test (Within (length m)) _ _ _ (λ _. new (omega arith) h) (λ _. refused))
 
 update_within : (c : ℕ) (es : List Entry) (m : List ℕ) (held : ℕ → Bool) (type_of : ℕ → ℕ) (r : UpdateRead) → UpdateIs held type_of m r → Within (length m) (judge_update c es m r)
 unfolding judge_update
-update_within c es m held type_of (U.Refused fault) f = refused
-update_within c es m held type_of (U.Update id q v) (UpdateIs.taken a h w i n) =
+update_within c es m held type_of (Err fault) f = refused
+update_within c es m held type_of (Ok read) (UpdateIs.taken a h w i n) =
     by_test (Within (length m)) _ _ _ (λ _. update (omega arith) h) (λ _. ignored (omega arith) h)
 
 message_within : (limit : ℕ) (es : List Entry) (c mark : ℕ) (m : List ℕ) → Within (length m) (judge_message limit es c mark m)

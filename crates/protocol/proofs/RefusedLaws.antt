@@ -1,4 +1,5 @@
 -- What must be refused is refused: the check that fails is the first one.
+use Rattle.std.specs.Prelude.{Err}
 use mathlib.Core.Path.{◌≡◌, refl, sym, ap, ◌∙◌}
 use mathlib.Core.Logic.{◌≢◌}
 use mathlib.Core.Bool.{Bool, true, false, ◌&&◌, and-false}
@@ -16,7 +17,6 @@ use Rattle.field.proofs.ChoiceLaws.{by_test, pick_true, pick_false}
 use Rattle.field.proofs.OctetsLaws.{decode_encode}
 use Rattle.value.proofs.ValueLaws.{lone_taken}
 use Rattle.message.specs.Layout.{hello_kind, assignment_kind, update_kind, kind_size, update_bytes, hello, assignment, update, layout}
-use Rattle.message.specs.declared.UpdateRead.TheVariants as U
 use Rattle.message.proofs.ReaderLaws.{update_unknown}
 use Rattle.table.specs.Table.{entry_of, parse_held_update, entries_of}
 use Rattle.table.proofs.TabulateLaws.{length_entries}
@@ -113,7 +113,7 @@ ungreeted_refused limit mem s c b o rest out =
 
 -- an update of an ID that is not held
 not_held : (mem : ServerMemory) (id number : ℕ) (value rest : List ℕ) → mem.table.count ≤ id
-    → parse_held_update (entries_of mem.table) (update_bytes id number value ++ rest) ≡ U.Refused (fault_at unknown_id kind_size)
+    → parse_held_update (entries_of mem.table) (update_bytes id number value ++ rest) ≡ Err (fault_at unknown_id kind_size)
 unfolding update_bytes encode16
 not_held mem id number value rest l =
     let b : length (entries_of mem.table) ≤ id = omega (arith, length_entries mem.table) in

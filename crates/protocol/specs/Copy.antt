@@ -1,5 +1,6 @@
 -- "The copy at the client": one message from the server.
-use Rattle.std.specs.Prelude.{ℕ, List, length, drop, get_or, ltb, eqb}
+use Rattle.message.specs.Read.{AssignmentRead, UpdateRead}
+use Rattle.std.specs.Prelude.{ℕ, List, length, drop, get_or, ltb, eqb, Ok, Err}
 use Rattle.field.specs.Answer.{done, ignored, incomplete, unknown_kind, table_full, name_taken, unsound}
 use Rattle.field.specs.Choice.{pick, demand}
 use Rattle.field.specs.Octets.{decode16}
@@ -8,10 +9,6 @@ use Rattle.field.specs.declared.Fault.{Fault}
 use Rattle.message.specs.Layout.{Entry, kind_size, revision_length, keep_alive_kind, unsupported_kind, hello_complete_kind, assignment_kind, update_kind}
 use Rattle.message.specs.Reader.{id_allowed, parse_assignment, name_in, update_value_in, entry_in, assignment_length, update_length}
 use Rattle.message.specs.declared.AllowedId.TheVariants.{Only}
-use Rattle.message.specs.declared.AssignmentRead.{AssignmentRead}
-use Rattle.message.specs.declared.AssignmentRead.TheVariants as A
-use Rattle.message.specs.declared.UpdateRead.{UpdateRead}
-use Rattle.message.specs.declared.UpdateRead.TheVariants as U
 use Rattle.table.specs.Names.{name_held}
 use Rattle.table.specs.Table.{TableMemory, parse_held_update, entries_of, store_entry, store_value, emptied}
 use Rattle.soundness.specs.Sound.{large_enough, sound_table}
@@ -29,16 +26,16 @@ refuse_message number = refuse (fault_at number 0)
 
 -- "An assignment's ID must equal the copy's count (5); after its value 13, then 11; else it is stored with its number."
 unfoldable pub judge_copy_assignment : ℕ → List Entry → List ℕ → AssignmentRead → CopyVerdict
-judge_copy_assignment limit es m (A.Refused fault) = refuse fault
-judge_copy_assignment limit es m (A.Assignment type id number name_length value_length) =
-    pick (name_held (name_in name_length m) es) (refuse_message name_taken)
+judge_copy_assignment limit es m (Err fault) = refuse fault
+judge_copy_assignment limit es m (Ok read) =
+    pick (name_held (name_in read.name_length m) es) (refuse_message name_taken)
     (demand (ltb (length es) limit) (refuse_message table_full)
-    (store_new (entry_in name_length type number value_length m) (assignment_length name_length value_length)))
+    (store_new (entry_in read.name_length read.type_code read.number read.value_length m) (assignment_length read.name_length read.value_length)))
 
 -- "An update of a held ID is always stored."
 unfoldable pub judge_copy_update : List ℕ → UpdateRead → CopyVerdict
-judge_copy_update m (U.Refused fault) = refuse fault
-judge_copy_update m (U.Update id number value_length) = store_update id number (update_value_in value_length m) (update_length value_length)
+judge_copy_update m (Err fault) = refuse fault
+judge_copy_update m (Ok read) = store_update read.id read.number (update_value_in read.value_length m) (update_length read.value_length)
 
 -- 0x02, "once its revision is read, which is reported"
 abbrev pub judge_unsupported : List ℕ → CopyVerdict

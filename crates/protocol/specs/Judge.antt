@@ -1,5 +1,6 @@
 -- What a call comes to, before the room for its output is looked at: "The order in which a message is judged", "What each message does".
-use Rattle.std.specs.Prelude.{ℕ, List, length, drop, get_or, ltb, eqb}
+use Rattle.message.specs.Read.{AssignmentRead, UpdateRead}
+use Rattle.std.specs.Prelude.{ℕ, List, length, drop, get_or, ltb, eqb, Ok, Err}
 use Rattle.field.specs.Answer.{incomplete, connection_too_high, wrong_state, unknown_kind, unknown_id, table_full, name_taken}
 use Rattle.field.specs.Choice.{pick, demand}
 use Rattle.field.specs.Octets.{decode16}
@@ -11,10 +12,6 @@ use Rattle.scalar.specs.Scalar.{equal_values}
 use Rattle.message.specs.Layout.{Entry, kind_size, revision_length, keep_alive_kind, hello_kind, assignment_kind, update_kind}
 use Rattle.message.specs.Reader.{id_allowed, parse_assignment, name_in, value_in, update_value_in, assignment_length, update_length}
 use Rattle.message.specs.declared.AllowedId.TheVariants.{Only}
-use Rattle.message.specs.declared.AssignmentRead.{AssignmentRead}
-use Rattle.message.specs.declared.AssignmentRead.TheVariants as A
-use Rattle.message.specs.declared.UpdateRead.{UpdateRead}
-use Rattle.message.specs.declared.UpdateRead.TheVariants as U
 use Rattle.writer.specs.Writer.{check_name}
 use Rattle.table.specs.Names.{name_held}
 use Rattle.table.specs.Table.{default_entry, parse_held_update}
@@ -66,19 +63,19 @@ judge_hello c mark m =
 
 -- "If the name is held, 16 .. Otherwise the next ID (0, 1, 2 ..) and number 1 (H)": 11 where the table is full
 unfoldable pub judge_assignment : ℕ → List Entry → List ℕ → AssignmentRead → Verdict
-judge_assignment limit es m (A.Refused fault) = refuse fault
-judge_assignment limit es m (A.Assignment type id number name_length value_length) =
-    pick (name_held (name_in name_length m) es) (ignore (assignment_length name_length value_length))
+judge_assignment limit es m (Err fault) = refuse fault
+judge_assignment limit es m (Ok read) =
+    pick (name_held (name_in read.name_length m) es) (ignore (assignment_length read.name_length read.value_length))
     (demand (ltb (length es) limit) (refuse_call table_full)
-    (store_new (new_entry (name_in name_length m) type (value_in name_length value_length m)) (assignment_length name_length value_length)))
+    (store_new (new_entry (name_in read.name_length m) read.type_code (value_in read.name_length read.value_length m)) (assignment_length read.name_length read.value_length)))
 
 -- "With d from 1 to 32,767 number and value are stored and the same update goes to all other greeted connections (H). Otherwise 16."
 unfoldable pub judge_update : ℕ → List Entry → List ℕ → UpdateRead → Verdict
-judge_update c es m (U.Refused fault) = refuse fault
-judge_update c es m (U.Update id number value_length) =
-    pick (passed_by (get_or es id default_entry).number number)
-    (store_update id number (update_value_in value_length m) (update_length value_length) (other_greeted c))
-    (ignore (update_length value_length))
+judge_update c es m (Err fault) = refuse fault
+judge_update c es m (Ok read) =
+    pick (passed_by (get_or es read.id default_entry).number read.number)
+    (store_update read.id read.number (update_value_in read.value_length m) (update_length read.value_length) (other_greeted c))
+    (ignore (update_length read.value_length))
 
 -- "greeted only" (3)
 abbrev pub demand_greeted : ℕ → Verdict → Verdict

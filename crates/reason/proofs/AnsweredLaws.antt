@@ -1,4 +1,6 @@
 -- The call itself gives the number, and tells the place, that go with the reason.
+use Rattle.std.specs.Prelude.{Ok, Err}
+use Rattle.message.specs.Read.{AssignmentRead, UpdateRead}
 use mathlib.Core.Path.{◌≡◌, refl, sym, ap, ◌∙◌}
 use mathlib.Core.Bool.{Bool, true, false, false≢true, not, ◌&&◌, and-eq-true_iff}
 use mathlib.Core.List.{List}
@@ -14,10 +16,6 @@ use Rattle.field.proofs.ChoiceLaws.{by_test, pick_true, pick_false}
 use Rattle.sequence.specs.SequenceNumber.{half, distance, passed_by}
 use Rattle.message.specs.Layout.{Entry, keep_alive_kind, assignment_kind, update_kind}
 use Rattle.message.specs.Reader.{name_in}
-use Rattle.message.specs.declared.AssignmentRead.{AssignmentRead}
-use Rattle.message.specs.declared.AssignmentRead.TheVariants as A
-use Rattle.message.specs.declared.UpdateRead.{UpdateRead}
-use Rattle.message.specs.declared.UpdateRead.TheVariants as U
 use Rattle.message.proofs.TakenLaws.{UpdateIs, update_is}
 use Rattle.table.specs.Names.{name_held}
 use Rattle.table.specs.Table.{default_entry, entries_of}
@@ -91,9 +89,9 @@ module _ (limit : ℕ) (mem : ServerMemory) (es : List Entry) (m : List ℕ) whe
 
   assignment_numbered : (r : AssignmentRead) → Numbered mem es m assignment_kind (judge_assignment limit es m r)
   unfolding judge_assignment ignored_reason pick
-  assignment_numbered (A.Refused fault) = record { same = refl }
-  assignment_numbered (A.Assignment t id q n v) =
-      by_test P (name_held (name_in n m) es) _ _ (λ _. record { same = refl }) (λ _. by_test P (ltb (length es) limit) _ _ (λ _. record { same = refl }) (λ _. record { same = refl }))
+  assignment_numbered (Err fault) = record { same = refl }
+  assignment_numbered (Ok read) =
+      by_test P (name_held (name_in read.name_length m) es) _ _ (λ _. record { same = refl }) (λ _. by_test P (ltb (length es) limit) _ _ (λ _. record { same = refl }) (λ _. record { same = refl }))
     where
       P : Verdict → Type 0
       P = Numbered mem es m assignment_kind
@@ -101,8 +99,8 @@ module _ (limit : ℕ) (mem : ServerMemory) (es : List Entry) (m : List ℕ) whe
   update_numbered : (c : ℕ) (r : UpdateRead) → UpdateIs (λ id. ltb id (length es)) (λ id. (get_or es id default_entry).type) m r
       → Numbered mem es m update_kind (judge_update c es m r)
   unfolding judge_update ignored_reason pick
-  update_numbered c (U.Refused fault) f = record { same = refl }
-  update_numbered c (U.Update id q v) (UpdateIs.taken h n w i e) =
+  update_numbered c (Err fault) f = record { same = refl }
+  update_numbered c (Ok read) (UpdateIs.taken h n w i e) =
       rw (i, e)
       (by_test (Numbered mem es m update_kind) (passed_by (stored_in es m) (received_in m)) _ _ (λ p. record { same = rw (number_applied (stored_in es m) (received_in m) p) })
       (λ p. record { same = sym (number_not_applied _ _ _ (number_ignored (stored_in es m) (received_in m) p)) }))

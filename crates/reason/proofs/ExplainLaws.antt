@@ -1,4 +1,5 @@
 -- The first check that fails is what the verdict on the message says.
+use Rattle.message.specs.Read.{AssignmentRead, UpdateRead, an_assignment, an_update}
 use Rattle.std.specs.Prelude.{Ok, Err}
 use mathlib.Core.Path.{◌≡◌, refl, sym, ap, ◌∙◌}
 use mathlib.Core.Bool.{Bool, true, false, not, ◌&&◌, and-eq-true_iff}
@@ -19,10 +20,6 @@ use Rattle.value.specs.Value.{known_type, parse_value}
 use Rattle.message.specs.Layout.{Entry, keep_alive_kind, hello_kind, assignment_kind, update_kind}
 use Rattle.message.specs.Reader.{id_allowed, name_in, parse_behind_id, parse_after_name, parse_assignment, parse_behind_update_id, parse_update}
 use Rattle.message.specs.declared.AllowedId.TheVariants.{Only}
-use Rattle.message.specs.declared.AssignmentRead.{AssignmentRead}
-use Rattle.message.specs.declared.AssignmentRead.TheVariants as A
-use Rattle.message.specs.declared.UpdateRead.{UpdateRead}
-use Rattle.message.specs.declared.UpdateRead.TheVariants as U
 use Rattle.reader.specs.Reader.{parse_text_at, parse_value_at}
 use Rattle.table.specs.Names.{holder, name_held}
 use Rattle.table.specs.Table.{entries_of, parse_held_update}
@@ -68,12 +65,12 @@ module _ (limit : ℕ) (es : List Entry) (known : KnownTypes es) (m : List ℕ) 
   of_assignment : AssignmentRead → Reason
   of_assignment r = explain es assignment_kind m (judge_assignment limit es m r)
 
-  assignment_refused : (fault : Fault) → of_assignment (A.Refused fault) ≡ Refused fault
+  assignment_refused : (fault : Fault) → of_assignment (Err fault) ≡ Refused fault
   unfolding of_assignment judge_assignment
   assignment_refused fault = refl
 
   -- a field, and then what is made of the rest
-  assignment_then : (p : Parsed) (f : ℕ → AssignmentRead) → of_assignment (and_then A.Refused p f) ≡ and_then Refused p (λ n. of_assignment (f n))
+  assignment_then : (p : Parsed) (f : ℕ → AssignmentRead) → of_assignment (and_then Err p f) ≡ and_then Refused p (λ n. of_assignment (f n))
   assignment_then (Err fault) f = assignment_refused fault
   assignment_then (Ok n) f = refl
 
@@ -84,7 +81,7 @@ module _ (limit : ℕ) (es : List Entry) (known : KnownTypes es) (m : List ℕ) 
   assignment_last : Reason
   assignment_last = pick (name_held name es) (NameHeld (holder name es)) (pick (ltb (length es) limit) Done (refused_at 11 0))
 
-  assignment_read : (type id q n v : ℕ) → n ≡ name_length_in m → of_assignment (A.Assignment type id q n v) ≡ assignment_last
+  assignment_read : (type id q n v : ℕ) → n ≡ name_length_in m → of_assignment (an_assignment type id q n v) ≡ assignment_last
   unfolding of_assignment judge_assignment ignored_reason assignment_last name pick
   assignment_read type id q n v e =
       rw e
@@ -93,7 +90,7 @@ module _ (limit : ℕ) (es : List Entry) (known : KnownTypes es) (m : List ℕ) 
       (pick_map (explain es assignment_kind m) (ltb (length es) limit) _ _))
 
   value_then : (type place : ℕ) (f : ℕ → AssignmentRead) → ((v : ℕ) → of_assignment (f v) ≡ assignment_last) → known_type type ≡ true
-      → of_assignment (and_then A.Refused (parse_value_at type place m) f) ≡ first_failing (value_checks type m place) assignment_last
+      → of_assignment (and_then Err (parse_value_at type place m) f) ≡ first_failing (value_checks type m place) assignment_last
   unfolding parse_value_at
   value_then type place f is k =
       assignment_then (moved_by place (parse_value type (drop place m))) f
@@ -106,9 +103,9 @@ module _ (limit : ℕ) (es : List Entry) (known : KnownTypes es) (m : List ℕ) 
 
   -- a test, and the refusal where it does not pass
   assignment_test : (b : Bool) (number place : ℕ) (r : AssignmentRead) (next : Reason) → (b ≡ true → of_assignment r ≡ next)
-      → of_assignment (pick b r (A.Refused (fault_at number place))) ≡ pick b next (refused_at number place)
+      → of_assignment (pick b r (Err (fault_at number place))) ≡ pick b next (refused_at number place)
   assignment_test b number place r next is =
-      pick_map of_assignment b r (A.Refused (fault_at number place))
+      pick_map of_assignment b r (Err (fault_at number place))
       ∙ rw (assignment_refused (fault_at number place)) (pick_then b (refused_at number place) is)
 
   -- the fields behind the name
@@ -157,27 +154,27 @@ module _ (limit : ℕ) (es : List Entry) (known : KnownTypes es) (m : List ℕ) 
   update_last : Reason
   update_last = number_reason (stored_in es m) (received_in m)
 
-  update_refused : (c : ℕ) (fault : Fault) → of_update c (U.Refused fault) ≡ Refused fault
+  update_refused : (c : ℕ) (fault : Fault) → of_update c (Err fault) ≡ Refused fault
   unfolding of_update judge_update
   update_refused c fault = refl
 
-  update_read : (c v : ℕ) → of_update c (U.Update (update_id_in m) (received_in m) v) ≡ update_last
+  update_read : (c v : ℕ) → of_update c (an_update (update_id_in m) (received_in m) v) ≡ update_last
   unfolding of_update judge_update ignored_reason update_last pick
   update_read c v =
       pick_map (explain es update_kind m) (passed_by (stored_in es m) (received_in m)) _ _ ∙ pick_same (passed_by (stored_in es m) (received_in m)) (number_reason (stored_in es m) (received_in m))
 
   update_test : (c : ℕ) (b : Bool) (number place : ℕ) (r : UpdateRead) (next : Reason) → (b ≡ true → of_update c r ≡ next)
-      → of_update c (pick b r (U.Refused (fault_at number place))) ≡ pick b next (refused_at number place)
+      → of_update c (pick b r (Err (fault_at number place))) ≡ pick b next (refused_at number place)
   update_test c b number place r next is =
-      pick_map (of_update c) b r (U.Refused (fault_at number place)) ∙ rw (update_refused c (fault_at number place)) (pick_then b (refused_at number place) is)
+      pick_map (of_update c) b r (Err (fault_at number place)) ∙ rw (update_refused c (fault_at number place)) (pick_then b (refused_at number place) is)
 
   update_value : (c : ℕ) → known_type (stored_type es (update_id_in m)) ≡ true
-      → of_update c (and_then U.Refused (parse_value_at (stored_type es (update_id_in m)) 5 m) (λ v. U.Update (update_id_in m) (received_in m) v))
+      → of_update c (and_then Err (parse_value_at (stored_type es (update_id_in m)) 5 m) (λ v. an_update (update_id_in m) (received_in m) v))
       ≡ first_failing (value_checks (stored_type es (update_id_in m)) m 5) update_last
   unfolding parse_value_at
   update_value c k = go (moved_by 5 (parse_value (stored_type es (update_id_in m)) (drop 5 m))) ∙ value_checks_lem (stored_type es (update_id_in m)) m 5 update_last k
     where
-      go : (p : Parsed) → of_update c (and_then U.Refused p (λ v. U.Update (update_id_in m) (received_in m) v)) ≡ and_then Refused p (λ _. update_last)
+      go : (p : Parsed) → of_update c (and_then Err p (λ v. an_update (update_id_in m) (received_in m) v)) ≡ and_then Refused p (λ _. update_last)
       go (Err fault) = update_refused c fault
       go (Ok v) = update_read c v
 

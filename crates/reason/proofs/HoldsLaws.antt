@@ -1,4 +1,6 @@
 -- The reason named is true of the message.
+use Rattle.std.specs.Prelude.{Ok, Err}
+use Rattle.message.specs.Read.{AssignmentRead, UpdateRead}
 use mathlib.Core.Path.{◌≡◌, refl, sym, subst, ◌∙◌}
 use mathlib.Core.Logic.{◌≢◌}
 use mathlib.Core.Bool.{Bool, true, false, false≢true, ◌&&◌, and-eq-true_iff}
@@ -16,10 +18,6 @@ use Rattle.sequence.specs.SequenceNumber.{half, distance, passed_by}
 use Rattle.message.specs.Layout.{Entry, hello, assignment, keep_alive_kind, hello_kind, assignment_kind, update_kind, layout}
 use Rattle.message.specs.Reader.{id_allowed, name_in, entry_in, update_value_in, Bytes, BeginsWith}
 use Rattle.message.specs.declared.AllowedId.TheVariants.{Only}
-use Rattle.message.specs.declared.AssignmentRead.{AssignmentRead}
-use Rattle.message.specs.declared.AssignmentRead.TheVariants as A
-use Rattle.message.specs.declared.UpdateRead.{UpdateRead}
-use Rattle.message.specs.declared.UpdateRead.TheVariants as U
 use Rattle.message.proofs.FirstLaws.{AssignmentFirst, assignment_first, UpdateFirst, update_first}
 use Rattle.message.proofs.ReadBytesLaws.{revision_stands, kind_stands}
 use Rattle.message.proofs.TakenLaws.{AssignmentIs, assignment_is, UpdateIs, update_is}
@@ -61,25 +59,25 @@ module _ (limit : ℕ) (mem : ServerMemory) (c : ℕ) (m : List ℕ) (b : Bytes 
   assignment_said : get_or m 0 0 ≡ assignment_kind → get_or mem.marks c 0 ≡ greeted → (r : AssignmentRead) → AssignmentRefuses (id_allowed (Only new_id)) m r
       → AssignmentFirst (id_allowed (Only new_id)) m r → AssignmentIs (id_allowed (Only new_id)) m r → Said limit mem c m assignment_kind (judge_assignment limit es m r)
   unfolding judge_assignment es
-  assignment_said k g (A.Refused fault) (AssignmentRefuses.refused h) f i = record { holds = HoldsOf.field_fails on g (MessageFailsAt.assignment k h) }
-  assignment_said k g (A.Assignment t id q n v) r (AssignmentFirst.taken a w first l) (AssignmentIs.taken a' l' w' fields) =
-      by_test P (name_held (name_in n m) es) _ _ (λ h. held_said n t q v _ fields.name_is stands h) (λ new.
+  assignment_said k g (Err fault) (AssignmentRefuses.refused h) f i = record { holds = HoldsOf.field_fails on g (MessageFailsAt.assignment k h) }
+  assignment_said k g (Ok read) r (AssignmentFirst.taken a w first l) (AssignmentIs.taken a' l' w' fields) =
+      by_test P (name_held (name_in read.name_length m) es) _ _ (λ h. held_said read.name_length read.type_code read.number read.value_length _ fields.name_is stands h) (λ new.
       by_test P (ltb (length es) limit) _ _ (λ few. record { holds = HoldsOf.assignment_done (new_name new) (ltb-true _ _ few) })
       (λ most. record { holds = HoldsOf.full (new_name new) (ltb-false _ _ most) }))
     where
       P : Verdict → Type 0
       P = Said limit mem c m assignment_kind
 
-      stands : Stands limit mem c m (assignment new_id (entry_in n t q v m))
+      stands : Stands limit mem c m (assignment new_id (entry_in read.name_length read.type_code read.number read.value_length m))
       stands =
           record {
-            first = record { obeys = (refl, w); first = subst (λ (i : ℕ). BeginsWith m (assignment i (entry_in n t q v m))) (eqb-true id new_id a) first };
+            first = record { obeys = (refl, w); first = subst (λ (i : ℕ). BeginsWith m (assignment i (entry_in read.name_length read.type_code read.number read.value_length m))) (eqb-true read.id new_id a) first };
             reached = on;
             state = g;
           }
 
-      new_name : name_held (name_in n m) es ≡ false → NewNameStands limit mem c m
-      new_name new = record { entry = entry_in n t q v m; stands = stands; new = new }
+      new_name : name_held (name_in read.name_length m) es ≡ false → NewNameStands limit mem c m
+      new_name new = record { entry = entry_in read.name_length read.type_code read.number read.value_length m; stands = stands; new = new }
 
   -- ---- an update
 
@@ -108,14 +106,14 @@ module _ (limit : ℕ) (mem : ServerMemory) (c : ℕ) (m : List ℕ) (b : Bytes 
       → UpdateFirst (λ id. ltb id (length es)) (stored_type es) m r → UpdateIs (λ id. ltb id (length es)) (stored_type es) m r
       → Said limit mem c m update_kind (judge_update c es m r)
   unfolding judge_update es KnownTypes
-  update_said known k g (U.Refused fault) (UpdateRefuses.type_unknown n h u) f i = absurd (false≢true (sym u ∙ known _ (ltb-true _ _ h)))
-  update_said known k g (U.Refused fault) (UpdateRefuses.refused n h) f i = record { holds = HoldsOf.field_fails on g (MessageFailsAt.update k h) }
-  update_said known k g (U.Update id q v) r (UpdateFirst.taken h w first l) (UpdateIs.taken h' l' w' i e) =
-      by_test (Said limit mem c m update_kind) (passed_by (get_or es id default_entry).number q) _ _ (λ p. record { holds = applied_said u p })
-      (λ p. ignored_said id q _ i e (not_applied_said u _ (number_ignored _ _ p)))
+  update_said known k g (Err fault) (UpdateRefuses.type_unknown n h u) f i = absurd (false≢true (sym u ∙ known _ (ltb-true _ _ h)))
+  update_said known k g (Err fault) (UpdateRefuses.refused n h) f i = record { holds = HoldsOf.field_fails on g (MessageFailsAt.update k h) }
+  update_said known k g (Ok read) r (UpdateFirst.taken h w first l) (UpdateIs.taken h' l' w' i e) =
+      by_test (Said limit mem c m update_kind) (passed_by (get_or es read.id default_entry).number read.number) _ _ (λ p. record { holds = applied_said u p })
+      (λ p. ignored_said read.id read.number _ i e (not_applied_said u _ (number_ignored _ _ p)))
     where
       u : UpdateStands limit mem c m
-      u = record { id = id; received = q; value = update_value_in v m; stands = record { first = record { obeys = (ltb-true _ _ h, w); first = first }; reached = on; state = g } }
+      u = record { id = read.id; received = read.number; value = update_value_in read.value_length m; stands = record { first = record { obeys = (ltb-true _ _ h, w); first = first }; reached = on; state = g } }
 
   -- ---- a message
 

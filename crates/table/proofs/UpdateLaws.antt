@@ -1,4 +1,5 @@
 -- An update that was read as the held entries fix it.
+use Rattle.message.specs.Read.{an_update}
 use mathlib.Core.Path.{◌≡◌}
 use mathlib.Core.List.{List}
 use Prim.Native.Nat.{ℕ, ◌+◌, ◌≤◌, ◌<◌}
@@ -6,13 +7,12 @@ use native.Mathlib.Omega.{arith}
 use lib.ListN.{length, get_or}
 use lib.Dec.{ltb}
 use borrow.Author.Tests.{ltb-true}
-use Rattle.message.specs.declared.UpdateRead.TheVariants as U
 use Rattle.message.proofs.TakenLaws.{update_fits}
 use Rattle.value.specs.Value.{max_value_size}
 use Rattle.table.specs.Table.{TableMemory, default_entry, entries_of, parse_held_update}
 use Rattle.table.proofs.TabulateLaws.{length_entries}
 
-pub held_update_fits : (table : TableMemory) (m : List ℕ) (id q v : ℕ) → parse_held_update (entries_of table) m ≡ U.Update id q v
+pub held_update_fits : (table : TableMemory) (m : List ℕ) (id q v : ℕ) → parse_held_update (entries_of table) m ≡ an_update id q v
     → (id < table.count) × (5 + v ≤ length m) × (v ≤ max_value_size)
 held_update_fits table m id q v e =
     let es = entries_of table in

@@ -1,9 +1,9 @@
 -- The lent table: "64 entry heads beside their bytes".
+use Rattle.message.specs.Read.{UpdateRead}
 use Rattle.std.specs.Prelude.{ℕ, zero, suc, ◌+◌, ◌*◌, ◌≤◌, ◌<◌, List, [], ◌∷◌, ◌++◌, length, take, drop, get_or, set, ltb}
 use Rattle.field.specs.Octets.{overwrite_at}
 use Rattle.message.specs.Layout.{Entry, max_name_length}
 use Rattle.message.specs.Reader.{parse_update}
-use Rattle.message.specs.declared.UpdateRead.{UpdateRead}
 use Rattle.value.specs.Value.{max_value_size}
 
 -- "64 entries"

@@ -1,4 +1,6 @@
 -- A message that is ignored can be read again.
+use Rattle.std.specs.Prelude.{Ok, Err}
+use Rattle.message.specs.Read.{AssignmentRead, UpdateRead}
 use mathlib.Core.Path.{◌≡◌, sym, ap, subst, ◌∙◌}
 use mathlib.Core.Bool.{Bool}
 use mathlib.Core.List.{List}
@@ -12,10 +14,6 @@ use Rattle.field.proofs.ChoiceLaws.{by_test, pick_true}
 use Rattle.message.specs.Layout.{Entry, keep_alive_kind, assignment_kind, update_kind}
 use Rattle.message.specs.Reader.{id_allowed}
 use Rattle.message.specs.declared.AllowedId.TheVariants.{Only}
-use Rattle.message.specs.declared.AssignmentRead.{AssignmentRead}
-use Rattle.message.specs.declared.AssignmentRead.TheVariants as A
-use Rattle.message.specs.declared.UpdateRead.{UpdateRead}
-use Rattle.message.specs.declared.UpdateRead.TheVariants as U
 use Rattle.message.proofs.TakenLaws.{AssignmentIs, assignment_is, UpdateIs, update_is}
 use Rattle.table.specs.Table.{TableMemory, default_entry, entries_of, max_entries}
 use Rattle.table.proofs.TabulateLaws.{length_entries}
@@ -44,8 +42,8 @@ module _ (limit : ℕ) (es : List Entry) (m : List ℕ) where
 
   assignment_again : get_or m 0 0 ≡ assignment_kind → 1 ≤ length m → (allowed : ℕ → Bool) (r : AssignmentRead) → AssignmentIs allowed m r → P (judge_assignment limit es m r)
   unfolding judge_assignment P
-  assignment_again k there allowed (A.Refused fault) f = refused
-  assignment_again k there allowed (A.Assignment t id q n v) (AssignmentIs.taken a l w fields) =
+  assignment_again k there allowed (Err fault) f = refused
+  assignment_again k there allowed (Ok read) (AssignmentIs.taken a l w fields) =
       by_test (WhenIgnored (length es) m) _ _ _ (λ _. ignored again) (λ _. by_test (WhenIgnored (length es) m) _ _ _ (λ _. created) (λ _. refused))
     where
       again : ReadAgain (length es) m
@@ -60,8 +58,8 @@ module _ (limit : ℕ) (es : List Entry) (m : List ℕ) where
   update_again : get_or m 0 0 ≡ update_kind → 1 ≤ length m → (c : ℕ) (r : UpdateRead) → UpdateIs (λ id. ltb id (length es)) (λ id. (get_or es id default_entry).type) m r
       → P (judge_update c es m r)
   unfolding judge_update P
-  update_again k there c (U.Refused fault) f = refused
-  update_again k there c (U.Update id q v) (UpdateIs.taken h l w i e) =
+  update_again k there c (Err fault) f = refused
+  update_again k there c (Ok read) (UpdateIs.taken h l w i e) =
       by_test (WhenIgnored (length es) m) _ _ _ (λ _. updated) (λ _. ignored again)
     where
       again : ReadAgain (length es) m
@@ -70,7 +68,7 @@ module _ (limit : ℕ) (es : List Entry) (m : List ℕ) where
             kind_there = there;
             first_there = λ _. omega (arith, l);
             name_there = λ (a : get_or m 0 0 ≡ assignment_kind). absurd (omega (arith, k, a));
-            number_there = λ _ _. (omega (arith, l), omega (arith, i, ltb-true id (length es) h));
+            number_there = λ _ _. (omega (arith, l), omega (arith, i, ltb-true read.id (length es) h));
           }
 
   message_again : (c mark : ℕ) → P (judge_message limit es c mark m)
