@@ -148,6 +148,15 @@ impl Update {
     }
 }
 
+// An entry whose name and value are lent.
+#[derive(Clone, Copy)]
+pub struct LentEntry<'a> {
+    pub name: &'a [u8],
+    pub type_code: u16,
+    pub number: u16,
+    pub value: &'a [u8],
+}
+
 // A message's fields.
 #[derive(Clone, Copy, PartialEq, Eq)]
 pub enum Decoded {

@@ -10,8 +10,11 @@ use lib.Seq.{length-take-le}
 use borrow.Author.Tests.{ltb-true, le-ltb, lt-ltb}
 use Rattle.message.specs.Layout.{Entry}
 use Rattle.field.specs.Octets.{bytes_equal}
-use Rattle.field.proofs.EqualLaws.{is_false, bytes_equal_true}
-use Rattle.table.specs.Names.{holder, name_held, names_differ}
+use Rattle.field.proofs.EqualLaws.{is_false, bytes_equal_true, bytes_equal_false, equal_bytes}
+use Rattle.std.specs.Prelude.{Some, None}
+use mathlib.Core.Logic.{◌≢◌}
+use Rattle.field.specs.Choice.{pick}
+use Rattle.table.specs.Names.{holder, name_held, names_differ, entry_named}
 use Rattle.table.specs.Table.{TableMemory, name_length_field, value_length_field, name_start, value_start, head_field, HasName, HasValue, entry_at, Holds, Named, Readable, tabulate, entries_of}
 use Rattle.table.proofs.NamesLaws.{holder_found, holder_absent, holder_most, holder_first, held_at, differ_last, differ_at, at_differ}
 use Rattle.table.proofs.TabulateLaws.{length_tabulate, get_d_tabulate, length_entries}
@@ -134,3 +137,16 @@ not_found table name id e h = rw (← e, length_entries table) (le-ltb id table.
 
 pub found_most : (table : TableMemory) (name : List ℕ) (id : ℕ) → id ≡ holder name (entries_of table) → id ≤ table.count
 found_most table name id e = rw e (omega (arith, holder_most name (entries_of table), length_entries table))
+
+-- ---- the search by the places passed
+
+pub named_at : (name : List ℕ) (f : ℕ → Entry) (n id : ℕ) → id < n → ((i : ℕ) → i < id → (f i).name ≢ name) → (f id).name ≡ name
+    → Some id ≡ entry_named name (tabulate n f)
+unfolding name_held pick
+named_at name f n id l before here =
+    let at_id = holder_at name f n id l (λ i m. bytes_equal_false (f i).name name (before i m)) (equal_bytes (f id).name name here) in
+    rw (at_id, length_tabulate n f, lt-ltb id n l) refl
+
+pub named_nowhere : (name : List ℕ) (f : ℕ → Entry) (n : ℕ) → ((i : ℕ) → i < n → (f i).name ≢ name) → None ≡ entry_named name (tabulate n f)
+unfolding pick
+named_nowhere name f n other = rw (absent_below name f n (λ i m. bytes_equal_false (f i).name name (other i m))) refl

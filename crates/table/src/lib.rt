@@ -1,19 +1,20 @@
 // The lent table: its layout, what an entry has, the search over names, and storing.
 #![tactic(auto)]
 
-ghost use Rattle.std.specs.Prelude.{◌≡◌, true, false, List, ℕ, ◌+◌, ◌*◌, ◌≤◌, ◌<◌, length};
-ghost use Rattle.field.specs.Octets.{bytes_equal};
-ghost use Rattle.table.specs.Names.{holder};
-ghost use Rattle.table.specs.Table.{head_size, name_length_field, value_length_field};
-ghost use Rattle.table.specs.Table.{head_field, HasHead, HasName, HasValue, entry_at};
-ghost use Rattle.table.specs.Table.{Holds, Named, Readable, lent, entries_of, parse_held_update};
+ghost use Rattle.std.specs.Prelude.{◌≡◌, ◌↔◌, ◌+◌, ◌≤◌, ◌<◌, length, IsTrue};
+ghost use Rattle.table.specs.Names.{entry_named};
+ghost use Rattle.table.specs.Table.{head_size, name_length_field, value_length_field, type_field, number_field};
+ghost use Rattle.table.specs.Table.{head_field, HasHead, HasName, HasValue, entry_of};
+ghost use Rattle.table.specs.Table.{Holds, Named, Readable, entries_of, parse_held_update};
 ghost use Rattle.table.specs.Table.{heads_with_entry, bytes_with_entry, heads_with_value, bytes_with_value};
+ghost use Rattle.table.specs.Memory.{memory_of};
 ghost use Rattle.message.specs.Layout.{max_name_length};
-ghost use Rattle.message.specs.Lent.{lent_entry};
+ghost use Rattle.message.specs.Lent.{entry_lent};
 ghost use Rattle.value.specs.Value.{max_value_size};
 
-use field::{INCOMPLETE, Number, UNKNOWN_ID};
-use message::UpdateRead;
+use field::{Fault, Refusal};
+use message::{LentEntry, Update};
+use reader::Reader;
 
 pub const MAX_ENTRIES: usize = 64;
 
@@ -41,158 +42,160 @@ pub const HEADS_SIZE: usize = HEAD_SIZE * MAX_ENTRIES;
 
 pub const BYTES_SIZE: usize = ENTRY_SIZE * MAX_ENTRIES;
 
-// ---- what an entry has: name and value, the numbers of its head
+// ---- a table that is read
 
-fn head_field(heads: &[u16], i: usize, place: usize) -> u16
-    requires { (HasHead i heads.now) × (place < head_size) }
-    ensures { result ≡ head_field heads.now i place }
-{
-    heads[HEAD_SIZE * i + place]
+// The heads' numbers, the entries' bytes, and how many entries there are. What is lent may be of any length.
+#[derive(Clone, Copy)]
+pub struct Table<'a> {
+    pub heads: &'a [u16],
+    pub bytes: &'a [u8],
+    pub count: u16,
 }
 
-pub fn name_length_of(heads: &[u16], i: usize) -> usize
-    requires { HasHead i heads.now }
-    ensures { result ≡ head_field heads.now i name_length_field }
-{
-    head_field(heads, i, NAME_LENGTH) as usize
-}
+impl<'a> Table<'a> {
+    // How many entries there are.
+    pub fn len(self) -> usize
+        ensures { result ≡ self.entry.count }
+    {
+        usize::from(self.count)
+    }
 
-pub fn value_length_of(heads: &[u16], i: usize) -> usize
-    requires { HasHead i heads.now }
-    ensures { result ≡ head_field heads.now i value_length_field }
-{
-    head_field(heads, i, VALUE_LENGTH) as usize
-}
+    // The same table, with so many entries.
+    pub fn first(self, count: u16) -> Table<'a>
+        ensures { (result.heads ≡ self.entry.heads) × (result.bytes ≡ self.entry.bytes) × (result.count ≡ count) }
+    {
+        Table { count, ..self }
+    }
 
-pub fn type_of(heads: &[u16], i: usize) -> u16
-    requires { HasHead i heads.now }
-    ensures { (bytes : List ℕ) → result ≡ (entry_at heads.now bytes i).type }
-{
-    head_field(heads, i, TYPE)
-}
+    fn head_field(self, i: usize, place: usize) -> u16
+        requires { (HasHead i self.heads.now) × (place < head_size) }
+        ensures { result ≡ head_field self.entry.heads.now i place }
+    {
+        self.heads[HEAD_SIZE * i + place]
+    }
 
-pub fn number_of(heads: &[u16], i: usize) -> u16
-    requires { HasHead i heads.now }
-    ensures { (bytes : List ℕ) → result ≡ (entry_at heads.now bytes i).number }
-{
-    head_field(heads, i, NUMBER)
-}
+    pub fn name_length_of(self, i: usize) -> usize
+        requires { HasHead i self.heads.now }
+        ensures { result ≡ head_field self.entry.heads.now i name_length_field }
+    {
+        usize::from(self.head_field(i, NAME_LENGTH))
+    }
 
-pub fn name_of<'a>(heads: &[u16], bytes: &'a [u8], i: usize) -> &'a [u8]
-    requires { HasName i heads.now bytes.now }
-    ensures { result.now ≡ (entry_at heads.now bytes.now i).name }
-{
-    let from = ENTRY_SIZE * i;
-    let end = from + name_length_of(heads, i);
-    &bytes[from..end]
-}
+    pub fn value_length_of(self, i: usize) -> usize
+        requires { HasHead i self.heads.now }
+        ensures { result ≡ head_field self.entry.heads.now i value_length_field }
+    {
+        usize::from(self.head_field(i, VALUE_LENGTH))
+    }
 
-pub fn value_of<'a>(heads: &[u16], bytes: &'a [u8], i: usize) -> &'a [u8]
-    requires { HasValue i heads.now bytes.now }
-    ensures { result.now ≡ (entry_at heads.now bytes.now i).value }
-{
-    let from = ENTRY_SIZE * i + NAME_SIZE;
-    let end = from + value_length_of(heads, i);
-    &bytes[from..end]
-}
+    #[tactic(auto, unfolding(crate::specs::Table::entry_at))]
+    pub fn type_of(self, i: usize) -> u16
+        requires { HasHead i self.heads.now }
+        ensures { result ≡ (entry_of (memory_of self.entry) i).type }
+    {
+        self.head_field(i, TYPE)
+    }
 
-// ---- the search, and an update of what is held
+    #[tactic(auto, unfolding(crate::specs::Table::entry_at))]
+    pub fn number_of(self, i: usize) -> u16
+        requires { HasHead i self.heads.now }
+        ensures { result ≡ (entry_of (memory_of self.entry) i).number }
+    {
+        self.head_field(i, NUMBER)
+    }
+
+    #[tactic(auto, unfolding(crate::specs::Table::entry_at))]
+    pub fn name_of(self, i: usize) -> &'a [u8]
+        requires { HasName i self.heads.now self.bytes.now }
+        ensures { result.now ≡ (entry_of (memory_of self.entry) i).name }
+    {
+        &self.bytes[ENTRY_SIZE * i..][..self.name_length_of(i)]
+    }
+
+    #[tactic(auto, unfolding(crate::specs::Table::entry_at))]
+    pub fn value_of(self, i: usize) -> &'a [u8]
+        requires { HasValue i self.heads.now self.bytes.now }
+        ensures { result.now ≡ (entry_of (memory_of self.entry) i).value }
+    {
+        &self.bytes[ENTRY_SIZE * i + NAME_SIZE..][..self.value_length_of(i)]
+    }
+
+    // Entry i.
+    pub fn entry(self, i: usize) -> LentEntry<'a>
+        requires { (HasName i self.heads.now self.bytes.now) × (HasValue i self.heads.now self.bytes.now) }
+        ensures { entry_lent result ≡ entry_of (memory_of self.entry) i }
+    {
+        LentEntry {
+            name: self.name_of(i),
+            type_code: self.type_of(i),
+            number: self.number_of(i),
+            value: self.value_of(i),
+        }
+    }
+
+    // The ID of the first entry whose name is equal.
+    #[tactic(auto, using(crate::proofs::SearchLaws::has_name, crate::proofs::SearchLaws::named_at, crate::proofs::SearchLaws::named_nowhere), unfolding(crate::specs::Table::entries_of))]
+    pub fn find_name(self, name: &[u8]) -> Option<usize>
+        requires { Named self.count self.heads.now self.bytes.now }
+        ensures { result ≡ entry_named name.now (entries_of (memory_of self.entry)) }
+    {
+        for i in 0..self.len() {
+            if is_name(self.name_of(i), name) {
+                return Some(i);
+            }
+        }
+        None
+    }
+
+    // An update of a held ID, read with its stored type.
+    #[tactic(auto, using(crate::proofs::UpdateLaws::update_cut, crate::proofs::UpdateLaws::update_of_held, crate::proofs::UpdateLaws::update_of_none), unfolding(crate::specs::Table::entry_at))]
+    pub fn read_held_update(self, m: &[u8]) -> Result<Update, Fault>
+        requires { Readable self.count self.heads.now self.bytes.now }
+        ensures { result ≡ parse_held_update (entries_of (memory_of self.entry)) m.now }
+    {
+        let id = Reader::new(m).at(message::KIND_SIZE).number()?;
+        if id >= self.count {
+            return Err(Fault::new(Refusal::UnknownId, message::KIND_SIZE));
+        }
+        let type_code = self.type_of(usize::from(id)) as u8;
+        message::read_behind_update_id(m, id, type_code)
+    }
+}
 
 // The bytes of names that are compared first.
-const FRONT: usize = 16;
+const FRONT: usize = 8;
 
-// Whether two names are as long and begin alike: a fixed number of bytes, which the compiler compares at once. Most names differ there.
-fn alike(held: &[u8], name: &[u8]) -> bool
-    ensures lengths { result ≡ true → length held.now ≡ length name.now }
-    ensures others { result ≡ false → bytes_equal held.now name.now ≡ false }
+// Whether a held name is equal. Most names differ in length or in their first bytes: those are compared at once, before the library is
+// asked about the whole.
+fn is_name(held: &[u8], name: &[u8]) -> bool
+    ensures { IsTrue result ↔ (held.now ≡ name.now) }
 {
-    if held.len() != name.len() {
-        return false;
-    }
-    if name.len() < FRONT {
-        return true;
-    }
-    let mut equal = true;
-    let mut k = 0;
-    while k < FRONT {
-        equal = field::still_equal(equal, held[k], name[k]);
-        k += 1;
-    }
-    equal
-}
-
-// The ID of the first of so many entries whose name is equal, or their count where there is none.
-pub fn find_name(heads: &[u16], bytes: &[u8], count: usize, name: &[u8]) -> usize
-    requires { Named count heads.now bytes.now }
-    ensures { result ≡ holder name.now (entries_of (lent heads.now bytes.now count)) }
-{
-    let mut i = 0;
-    let id = 'entries: loop {
-        if i >= count {
-            break 'entries count;
-        }
-        let held = name_of(heads, bytes, i);
-        if alike(held, name) {
-            let mut equal = true;
-            let mut k = 0;
-            while k < name.len() {
-                equal = field::still_equal(equal, held[k], name[k]);
-                k += 1;
-            }
-            if equal {
-                break 'entries i;
-            }
-        }
-        i += 1;
-    };
-    id
-}
-
-// An update of a held ID, read with its stored type. `bytes` is lent for the contract.
-pub fn read_held_update(heads: &[u16], bytes: &[u8], count: u16, m: &[u8]) -> UpdateRead
-    requires { Readable count heads.now bytes.now }
-    ensures { result ≡ parse_held_update (entries_of (lent heads.now bytes.now count)) m.now }
-{
-    let Number::There(id) = reader::number_at(m, message::KIND_SIZE) else {
-        return UpdateRead::Refused(field::fault_at(INCOMPLETE, message::KIND_SIZE));
-    };
-    if id >= count {
-        return UpdateRead::Refused(field::fault_at(UNKNOWN_ID, message::KIND_SIZE));
-    }
-    let type_code = type_of(heads, id as usize);
-    message::read_behind_update_id(m, id, type_code as u8)
+    held.len() == name.len()
+        && held.first_chunk::<FRONT>() == name.first_chunk::<FRONT>()
+        && held == name
 }
 
 // ---- storing
 
 // Stores an entry's head and bytes.
-pub fn store_entry(
-    heads: &mut [u16],
-    bytes: &mut [u8],
-    id: usize,
-    name: &[u8],
-    type_code: u16,
-    number: u16,
-    value: &[u8],
-)
+#[tactic(auto, unfolding(crate::specs::Table::heads_with_entry, crate::specs::Table::bytes_with_entry))]
+pub fn store_entry(heads: &mut [u16], bytes: &mut [u8], id: usize, entry: LentEntry)
     requires memory { Holds (id + 1) heads.old bytes.old }
-    requires lengths { (length name.now ≤ max_name_length) × (length value.now ≤ max_value_size) }
-    ensures heads { heads.new
-        ≡ heads_with_entry heads.old id (lent_entry name.now type_code number value.now) }
-    ensures bytes { bytes.new
-        ≡ bytes_with_entry bytes.old id (lent_entry name.now type_code number value.now) }
+    requires lengths { (length entry.name.now ≤ max_name_length) × (length entry.value.now ≤ max_value_size) }
+    ensures heads { heads.new ≡ heads_with_entry heads.old id (entry_lent entry.entry) }
+    ensures bytes { bytes.new ≡ bytes_with_entry bytes.old id (entry_lent entry.entry) }
 {
     let head = HEAD_SIZE * id;
-    let name_at = ENTRY_SIZE * id;
-    heads[head + NAME_LENGTH] = name.len() as u16;
-    heads[head + VALUE_LENGTH] = value.len() as u16;
-    heads[head + TYPE] = type_code;
-    heads[head + NUMBER] = number;
-    field::copy_into(bytes, name_at, name);
-    field::copy_into(bytes, name_at + NAME_SIZE, value);
+    heads[head + NAME_LENGTH] = entry.name.len() as u16;
+    heads[head + VALUE_LENGTH] = entry.value.len() as u16;
+    heads[head + TYPE] = entry.type_code;
+    heads[head + NUMBER] = entry.number;
+    field::copy_into(bytes, ENTRY_SIZE * id, entry.name);
+    field::copy_into(bytes, ENTRY_SIZE * id + NAME_SIZE, entry.value);
 }
 
 // Stores another number and value of an entry.
+#[tactic(auto, unfolding(crate::specs::Table::heads_with_value, crate::specs::Table::bytes_with_value))]
 pub fn store_value(heads: &mut [u16], bytes: &mut [u8], id: usize, number: u16, value: &[u8])
     requires memory { Holds (id + 1) heads.old bytes.old }
     requires length { length value.now ≤ max_value_size }
