@@ -1,7 +1,8 @@
 -- Laws of a sound entry.
 use Rattle.std.specs.Prelude.{Err, Ok}
 use Rattle.field.specs.Field.{Parsed}
-use Rattle.std.proofs.Common.{◌≡◌, ℕ, ◌<◌, ◌≤◌, true, false, ◌&&◌, leb, List, drop, ◌∙◌, arith, length-take, le-leb, leb-true}
+use Rattle.std.specs.Result.{is_ok}
+use Rattle.std.proofs.Common.{◌≡◌, refl, sym, ℕ, ◌<◌, ◌≤◌, true, false, ◌&&◌, leb, List, drop, ◌∙◌, arith, length-take, le-leb, leb-true}
 use mathlib.Core.Bool.{and-false, and-eq-true_iff, false≢true}
 use borrow.Author.Tests.{lt-leb}
 use Rattle.field.specs.Choice.{pick}
@@ -29,6 +30,10 @@ pub type_unknown : (t : ℕ) (v : List ℕ) → 255 < t → accepted (parse_lone
 unfolding parse_lone parse_value known_type pick
 type_unknown t v h = rw (lt-leb t 2 (omega arith), le-leb 16 t (omega arith), lt-leb t 18 (omega arith))
 
+accepted_is_ok : (r : Parsed) → is_ok r ≡ accepted r
+accepted_is_ok (Err fault) = refl
+accepted_is_ok (Ok n) = refl
+
 -- ---- the four tests
 
 module _ (heads bytes : List ℕ) (i : ℕ) where
@@ -48,6 +53,19 @@ module _ (heads bytes : List ℕ) (i : ℕ) where
       → sound_entry heads bytes i ≡ accepted (parse_lone (head_field heads i type_field) (entry_at heads bytes i).value)
   unfolding sound_entry entry_at
   by_value h g u = rw (le-leb (head_field heads i name_length_field) max_name_length h, le-leb (head_field heads i value_length_field) max_value_size g, u)
+
+  -- a type of two bytes is none, once the name is right
+  pub wide_type : (name : List ℕ) → name ≡ (entry_at heads bytes i).name → head_field heads i name_length_field ≤ max_name_length
+      → head_field heads i value_length_field ≤ max_value_size → is_utf8 name ≡ true → 255 < (entry_at heads bytes i).type → sound_entry heads bytes i ≡ false
+  unfolding entry_at
+  wide_type name n h g u t = by_value h g (rw n at u) ∙ type_unknown _ _ t
+
+  -- the value decides, once the others hold
+  pub value_decides : (name value : List ℕ) (type : ℕ) → name ≡ (entry_at heads bytes i).name → type ≡ (entry_at heads bytes i).type → value ≡ (entry_at heads bytes i).value
+      → head_field heads i name_length_field ≤ max_name_length → head_field heads i value_length_field ≤ max_value_size → is_utf8 name ≡ true
+      → is_ok (parse_lone type value) ≡ sound_entry heads bytes i
+  unfolding entry_at
+  value_decides name value type n t v h g u = rw (t, v) (accepted_is_ok _ ∙ sym (by_value h g (rw n at u)))
 
   -- ---- true gives the facts
 

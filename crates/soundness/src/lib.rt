@@ -1,20 +1,20 @@
 // Whether lent memory is sound.
 #![tactic(auto)]
 
-ghost use Rattle.std.specs.Prelude.{◌≡◌, ◌+◌, ◌*◌, ◌<◌, ◌≤◌, length, ◌==◌};
+ghost use Rattle.std.specs.Prelude.{◌≡◌, ◌+◌, ◌*◌, ◌<◌, ◌≤◌, length, ◌==◌, true, IsSome, IfSome, ◌↔◌};
 ghost use Rattle.field.specs.Choice.{pick};
 ghost use Rattle.message.specs.Layout.{max_name_length};
+ghost use Rattle.table.specs.Memory.{memory_of};
 ghost use Rattle.table.specs.Names.{name_held, names_differ};
-ghost use Rattle.table.specs.Table.{Holds, Named, entry_at, lent, entries_of, max_entries};
+ghost use Rattle.table.specs.Table.{Holds, Named, entry_at, entry_of, lent, entries_of, max_entries};
 ghost use Rattle.soundness.specs.Fingerprint.{fingerprints, several, weight_at, fingerprint_of, Covers};
-ghost use Rattle.soundness.specs.Sound.{accepted, all_below, sound_entry, sound_table, sound_marks};
+ghost use Rattle.soundness.specs.Sound.{all_below, sound_entry, sound_table, sound_marks};
 
-use field::Parsed;
-use std::num::wrapping_add_u16;
+use table::Table;
 
 pub const CONNECTIONS: usize = 16;
 
-// Connection marks.
+// Connection marks. Stays: C lends them as bytes.
 pub const CLOSED: u8 = 0;
 
 pub const OPEN: u8 = 1;
@@ -32,46 +32,58 @@ const WEIGHT_STEP: u16 = 161;
 // The owner of a fingerprint that more than one entry has.
 const SEVERAL: u8 = 255;
 
-fn is_accepted(p: Parsed) -> bool
-    ensures { result ≡ accepted p }
-{
-    match p {
-        Parsed::Refused(_) => false,
-        Parsed::Taken(_) => true,
+// A table that was judged.
+#[derive(Clone, Copy)]
+pub struct SoundTable<'a> {
+    pub table: Table<'a>,
+    pub ghost sound: { sound_table max_entries (memory_of table) ≡ true },
+}
+
+impl<'a> SoundTable<'a> {
+    // The table, where it is sound.
+    pub fn new(table: Table<'a>) -> Option<SoundTable<'a>>
+        ensures some { IsSome result ↔ (sound_table max_entries (memory_of table.entry) ≡ true) }
+        ensures same { IfSome result (λ sound. sound.table ≡ table.entry) }
+    {
+        if table_is_sound(table) {
+            Some(SoundTable { table })
+        } else {
+            None
+        }
     }
 }
 
 // Whether entry i has a name and a value that obey the rules.
-fn entry_is_sound(heads: &[u16], bytes: &[u8], i: usize) -> bool
-    requires { Holds (i + 1) heads.now bytes.now }
-    ensures { result ≡ sound_entry heads.now bytes.now i }
+#[tactic(auto, using(crate::proofs::EntryLaws::long_name, crate::proofs::EntryLaws::long_value, crate::proofs::EntryLaws::bad_name_lem))]
+fn entry_is_sound(table: Table, i: usize) -> bool
+    requires { Holds (i + 1) table.heads.now table.bytes.now }
+    ensures { result ≡ sound_entry table.entry.heads.now table.entry.bytes.now i }
 {
-    if table::name_length_of(heads, i) > table::NAME_SIZE {
+    if table.name_length_of(i) > table::NAME_SIZE {
         return false;
     }
-    if table::value_length_of(heads, i) > table::VALUE_SIZE {
+    if table.value_length_of(i) > table::VALUE_SIZE {
         return false;
     }
-    if !utf8::is_utf8(table::name_of(heads, bytes, i)) {
+    if !utf8::is_utf8(table.name_of(i)) {
         return false;
     }
-    let type_code = table::type_of(heads, i);
+    let type_code = table.type_of(i);
     if type_code > 255 {
         return false;
     }
-    is_accepted(value::read_lone(type_code as u8, table::value_of(heads, bytes, i)))
+    value::read_lone(type_code as u8, table.value_of(i)).is_ok()
 }
 
-fn entries_are_sound(heads: &[u16], bytes: &[u8], count: usize) -> bool
-    requires { Holds count heads.now bytes.now }
-    ensures { result ≡ all_below count (sound_entry heads.now bytes.now) }
+#[tactic(auto, using(crate::proofs::BelowLaws::all_more, crate::proofs::BelowLaws::all_false, crate::proofs::BelowLaws::all_none))]
+fn entries_are_sound(table: Table) -> bool
+    requires { Holds table.count table.heads.now table.bytes.now }
+    ensures { result ≡ all_below table.entry.count (sound_entry table.entry.heads.now table.entry.bytes.now) }
 {
-    let mut i = 0;
-    while i < count {
-        if !entry_is_sound(heads, bytes, i) {
+    for i in 0..table.len() {
+        if !entry_is_sound(table, i) {
             return false;
         }
-        i += 1;
     }
     true
 }
@@ -81,117 +93,109 @@ fn weighted(b: u8, k: u16) -> u16
     requires { k ≤ max_name_length }
     ensures { result ≡ b * weight_at k }
 {
-    (b as u16) * (1 + k * WEIGHT_STEP % WEIGHTS)
+    u16::from(b) * (1 + k * WEIGHT_STEP % WEIGHTS)
 }
 
 // A number that equal names share.
+#[tactic(auto, using(crate::proofs::FingerprintLaws::weighed_next), unfolding(crate::specs::Fingerprint::fingerprint_of, crate::specs::Fingerprint::weighed))]
 pub fn fingerprint(name: &[u8]) -> usize
     requires { length name.now ≤ max_name_length }
     ensures { result ≡ fingerprint_of name.now }
 {
     let mut sum: u16 = 0;
-    let mut k = 0;
-    while k < name.len() {
-        sum = wrapping_add_u16(sum, weighted(name[k], k as u16));
-        k += 1;
+    for (k, b) in name.iter().enumerate() {
+        sum = sum.wrapping_add(weighted(*b, k as u16));
     }
-    (sum as usize) % FINGERPRINTS
+    usize::from(sum) % FINGERPRINTS
 }
 
 // Whether entry i's name is held by an entry before it, where its fingerprint has this owner.
-fn held_before(heads: &[u16], bytes: &[u8], i: usize, owner: u8) -> bool
-    requires names { (i < several) × Named (i + 1) heads.now bytes.now }
-    requires owner { Covers i (entry_at heads.now bytes.now) owner }
-    ensures { result ≡ name_held (entry_at heads.now bytes.now i).name
-        (entries_of (lent heads.now bytes.now i)) }
+fn held_before(table: Table, i: usize, owner: u8) -> bool
+    requires names { (i < several) × Named (i + 1) table.heads.now table.bytes.now }
+    requires owner { Covers i (entry_at table.heads.now table.bytes.now) owner }
+    ensures { result ≡ name_held (entry_of (memory_of table.entry) i).name
+        (entries_of (lent table.entry.heads.now table.entry.bytes.now i)) }
 {
     if owner == 0 {
         return false;
     }
-    let name = table::name_of(heads, bytes, i);
-    let other = (owner - 1) as usize;
+    let name = table.name_of(i);
+    let other = usize::from(owner - 1);
     if other >= i {
-        return table::find_name(heads, bytes, i, name) < i;
+        return table.first(i as u16).find_name(name).is_some();
     }
-    field::same_bytes(table::name_of(heads, bytes, other), name)
+    table.name_of(other) == name
 }
 
 // The owner of a fingerprint once entry i has it too: i + 1 where none had it (0), else SEVERAL.
+#[tactic(auto, unfolding(field::specs::Choice::pick))]
 pub fn next_owner(owner: u8, i: usize) -> u8
     requires { i < several }
     ensures { result ≡ pick (owner == 0) (i + 1) several }
 {
-    if owner == 0 {
-        return (i + 1) as u8;
-    }
-    SEVERAL
+    if owner == 0 { (i + 1) as u8 } else { SEVERAL }
 }
 
-// Whether the names of so many entries all differ: none is held by an entry before it. `owners` has each fingerprint's owner so far, 0
-// where it has none, and may hold anything at first.
-fn all_differ(heads: &[u16], bytes: &[u8], count: usize, owners: &mut [u8]) -> bool
-    requires names { (count ≤ several) × Named count heads.now bytes.now }
+// Whether the names of all entries differ: none is held by an entry before it. `owners` has each fingerprint's owner so far, 0 where it
+// has none, and may hold anything at first.
+fn all_differ(table: Table, owners: &mut [u8]) -> bool
+    requires names { (table.count ≤ several) × Named table.count table.heads.now table.bytes.now }
     requires owners { fingerprints ≤ length owners.old }
-    ensures { result ≡ names_differ (entries_of (lent heads.now bytes.now count)) }
+    ensures { result ≡ names_differ (entries_of (memory_of table.entry)) }
 {
-    let mut i = 0;
-    while i < count {
-        let f = fingerprint(table::name_of(heads, bytes, i));
+    for i in 0..table.len() {
+        let f = fingerprint(table.name_of(i));
         let owner = owners[f];
-        if held_before(heads, bytes, i, owner) {
+        if held_before(table, i, owner) {
             return false;
         }
         owners[f] = next_owner(owner, i);
-        i += 1;
     }
     true
 }
 
-// Whether the names of so many entries all differ, each looked at once.
-fn names_differ(heads: &[u16], bytes: &[u8], count: usize) -> bool
-    requires { (count ≤ several) × Named count heads.now bytes.now }
-    ensures { result ≡ names_differ (entries_of (lent heads.now bytes.now count)) }
+// Whether the names of all entries differ, each looked at once.
+fn names_differ(table: Table) -> bool
+    requires { (table.count ≤ several) × Named table.count table.heads.now table.bytes.now }
+    ensures { result ≡ names_differ (entries_of (memory_of table.entry)) }
 {
-    if count < 2 {
+    if table.count < 2 {
         return true;
     }
     let mut owners = [0u8; FINGERPRINTS];
-    all_differ(heads, bytes, count, &mut owners)
+    all_differ(table, &mut owners)
 }
 
-// Whether a lent table is sound, with room for 64 entries. Heads and bytes go on as parts of themselves (docs/DECISIONS.md, Speed).
-pub fn table_is_sound(heads: &[u16], bytes: &[u8], count: u16) -> bool
-    ensures { result ≡ sound_table max_entries (lent heads.now bytes.now count) }
+// Whether a lent table is sound, with room for 64 entries.
+pub fn table_is_sound(table: Table) -> bool
+    ensures { result ≡ sound_table max_entries (memory_of table.entry) }
 {
-    if heads.len() < table::HEADS_SIZE {
+    if table.heads.len() < table::HEADS_SIZE {
         return false;
     }
-    if bytes.len() < table::BYTES_SIZE {
+    if table.bytes.len() < table::BYTES_SIZE {
         return false;
     }
-    if count > table::MAX_ENTRIES as u16 {
+    if table.len() > table::MAX_ENTRIES {
         return false;
     }
-    let n = count as usize;
-    if !entries_are_sound(&heads[0..], &bytes[0..], n) {
+    if !entries_are_sound(table) {
         return false;
     }
-    names_differ(&heads[0..], &bytes[0..], n)
+    names_differ(table)
 }
 
-// Whether 16 connection marks are there, each one of the three.
+// Whether 16 connection marks are there, each one of the three. They are looked at all at once, with no way out.
+#[tactic(auto, unfolding(crate::specs::Sound::sound_marks, crate::specs::Sound::all_below))]
 pub fn marks_are_sound(marks: &[u8]) -> bool
     ensures { result ≡ sound_marks marks.now }
 {
     if marks.len() < CONNECTIONS {
         return false;
     }
-    let mut c = 0;
-    while c < CONNECTIONS {
-        if marks[c] > GREETED {
-            return false;
-        }
-        c += 1;
+    let mut sound = true;
+    for mark in &marks[..CONNECTIONS] {
+        sound &= *mark <= GREETED;
     }
-    true
+    sound
 }

@@ -11,6 +11,7 @@ use borrow.Author.Tests.{ltb-true, le-ltb, lt-ltb}
 use Rattle.message.specs.Layout.{Entry}
 use Rattle.field.specs.Octets.{bytes_equal}
 use Rattle.field.proofs.EqualLaws.{is_false, bytes_equal_true, bytes_equal_false, equal_bytes}
+use Rattle.std.specs.Option.{is_some}
 use Rattle.std.specs.Prelude.{Some, None}
 use mathlib.Core.Logic.{◌≢◌}
 use Rattle.field.specs.Choice.{pick}
@@ -150,3 +151,11 @@ named_at name f n id l before here =
 pub named_nowhere : (name : List ℕ) (f : ℕ → Entry) (n : ℕ) → ((i : ℕ) → i < n → (f i).name ≢ name) → None ≡ entry_named name (tabulate n f)
 unfolding pick
 named_nowhere name f n other = rw (absent_below name f n (λ i m. bytes_equal_false (f i).name name (other i m))) refl
+
+pub named_is_some : (name : List ℕ) (es : List Entry) → is_some (entry_named name es) ≡ name_held name es
+unfolding pick
+named_is_some name es = go (name_held name es)
+  where
+    go : (held : Bool) → is_some (pick held (Some (holder name es)) None) ≡ held
+    go true = refl
+    go false = refl

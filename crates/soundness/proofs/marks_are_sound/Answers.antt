@@ -1,26 +1,20 @@
--- `marks_are_sound` meets its contract: the marks passed are at most 2.
-use Rattle.std.proofs.Common.{sym, arith, below_more}
-use Rattle.field.proofs.EqualLaws.{is_false}
-use Rattle.soundness.specs.Sound.{sound_marks}
-use Rattle.soundness.proofs.SoundLaws.{marks_facts, facts_marks}
+-- `marks_are_sound` meets its contract: what was seen of the marks passed is the test of them all.
+use Rattle.std.proofs.Common.{◌≡◌, ◌<◌, ◌&&◌, Bool, leb, length, slice_index, ap, arith, add-one, le-leb, length-take}
+use Rattle.std.proofs.lemmas.List.{get_or-take}
+use Rattle.soundness.specs.Sound.{sound_marks, all_below, greeted}
 use Rattle.soundness.proofs.marks_are_sound.Goals as goal
 
-pub returns-then-marks-lt-CONNECTIONS : goal.returns-then-marks-lt-CONNECTIONS
-returns-then-marks-lt-CONNECTIONS c =
+pub loop-mark-preserved : goal.loop-mark-preserved
+unfolding all_below
+loop-mark-preserved c =
     let marks = c.args.marks.now in
-    sym (is_false (sound_marks marks) (λ h. absurd (omega (arith, (marks_facts marks h).0))))
-
-pub loop-c-init : goal.loop-c-init
-loop-c-init c = (omega arith, λ k h. absurd (omega arith))
-
-pub returns-then-marks-c-gt-GREETED : goal.returns-then-marks-c-gt-GREETED
-returns-then-marks-c-gt-GREETED c =
-    let marks = c.args.marks.now in
-    let k = c.loop-c.c in
-    sym (is_false (sound_marks marks) (λ h. absurd (omega (arith, (marks_facts marks h).1 k (omega arith)))))
-
-pub loop-c-preserved : goal.loop-c-preserved
-loop-c-preserved c = (omega arith, below_more _ _ c.loop-c.invariant.1 c.if-marks-c-gt-GREETED.false)
+    let k = c.loop-mark.mark-index in
+    let inside : k < 16 = omega (arith, length-take 16 marks) in
+    rw (add-one, get_or-take 16 marks k 0 inside) (ap (λ (t : Bool). t && leb (slice_index marks k) greeted) c.loop-mark.invariant)
 
 pub returns : goal.returns
-returns c = sym (facts_marks c.args.marks.now (omega arith) (λ k l. c.loop-c.invariant.1 k (omega arith)))
+unfolding sound_marks
+returns c =
+    let marks = c.args.marks.now in
+    let all : c.loop-mark.mark-index ≡ 16 = omega (arith, length-take 16 marks) in
+    rw (le-leb 16 (length marks) (omega arith), ← all) c.loop-mark.invariant

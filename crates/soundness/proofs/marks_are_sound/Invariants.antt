@@ -1,8 +1,6 @@
-use Rattle.std.proofs.Common.{ℕ, ◌-◌, ◌<◌, ◌≤◌, get_or}
+use Rattle.std.proofs.Common.{◌≡◌, leb, slice_index}
+use Rattle.soundness.specs.Sound.{all_below, greeted}
 use Rattle.soundness.proofs.marks_are_sound.Given as goal
 
-abbrev pub invariant-loop-c : goal.invariant-loop-c
-invariant-loop-c l = (l.c ≤ 16) × ((k : ℕ) → k < l.c → get_or l.marks k 0 ≤ 2)
-
-abbrev pub decreases-loop-c : goal.decreases-loop-c
-decreases-loop-c l = 16 - l.c
+abbrev pub invariant-loop-mark : goal.invariant-loop-mark
+invariant-loop-mark l = l.sound ≡ all_below l.mark-index (λ c. leb (slice_index l.marks c) greeted)
