@@ -1,1 +1,2 @@
 pub mod Utf8Laws
+pub mod CharactersLaws

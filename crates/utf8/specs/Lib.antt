@@ -1,3 +1,4 @@
 pub mod Utf8
 pub mod MarkedTexts
 pub mod Edges
+pub mod Characters

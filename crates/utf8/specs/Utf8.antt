@@ -1,11 +1,14 @@
 -- UTF-8, from the ABNF of RFC 3629, section 4.
-use Rattle.std.specs.Prelude.{ℕ, ◌-◌, ◌≤◌, ◌<◌, List, [], ◌∷◌, Bool, true, false, leb, eqb, get_or}
+use Rattle.std.specs.Prelude.{ℕ, ◌-◌, List, [], ◌∷◌, Bool, true, false, leb, eqb}
 use Rattle.field.specs.Choice.{pick}
-use Rattle.utf8.specs.declared.Expected.{Expected}
-use Rattle.utf8.specs.declared.Expected.TheVariants.{Boundary, Tail, Invalid}
 
--- what follows a character's first byte b: the rows of UTF8-1 to UTF8-4 in rising order of b.
--- `Tail low high n` is a byte from low to high and then n of UTF8-tail, %x80-BF
+-- what may come next: a character or the end; a byte from low to high and then n of UTF8-tail, %x80-BF; nothing
+pub data Expected : Type 0 where
+  Boundary : Expected
+  Tail : (low high n : ℕ) → Expected
+  Invalid : Expected
+
+-- what follows a character's first byte b: the rows of UTF8-1 to UTF8-4 in rising order of b
 unfoldable pub after_first : ℕ → Expected
 after_first b =
     pick (leb b 0x7F) Boundary  -- UTF8-1 = %x00-7F
@@ -41,7 +44,3 @@ utf8_from e (b ∷ s) = utf8_from (after_byte e b) s
 -- UTF8-octets = *( UTF8-char )
 unfoldable pub is_utf8 : List ℕ → Bool
 is_utf8 s = utf8_from Boundary s
-
--- the bytes from one place up to another, which are there, are of UTF8-1
-abbrev pub Ascii : ℕ → ℕ → List ℕ → Type 0
-Ascii from to s = (i : ℕ) → from ≤ i → i < to → get_or s i 0 ≤ 0x7F
