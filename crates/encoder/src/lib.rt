@@ -3,36 +3,40 @@
 
 ghost use Rattle.std.specs.Prelude.{◌≡◌, ◌∷◌, [], ◌+◌, ◌≤◌, length};
 ghost use Rattle.field.specs.Octets.{overwrite_at};
+ghost use Rattle.message.specs.Kinds.{kind_byte};
 ghost use Rattle.message.specs.Layout.{assignment_bytes, update_bytes, revision_bytes};
 ghost use Rattle.message.specs.Layout.{max_name_length, kind_size, revision_length, assignment_fixed, update_value_start};
 ghost use Rattle.message.specs.Lent.{lent_entry};
 
 use message::{
-    ASSIGNMENT, ASSIGNMENT_NAME_START, ID_BEHIND_NAME, KIND_SIZE, NUMBER_BEHIND_NAME,
-    REVISION_LENGTH, UPDATE, UPDATE_NUMBER_START, UPDATE_VALUE_START, VALUE_BEHIND_NAME,
+    ASSIGNMENT_NAME_START, ID_BEHIND_NAME, KIND_SIZE, Kind, NUMBER_BEHIND_NAME, REVISION_LENGTH,
+    UPDATE_NUMBER_START, UPDATE_VALUE_START, VALUE_BEHIND_NAME,
 };
 
 // A message that is its kind alone.
-pub fn write_kind(out: &mut [u8], kind: u8) -> usize
+pub fn write_kind(out: &mut [u8], kind: Kind) -> usize
     requires { kind_size ≤ length out.old }
     ensures sent { result ≡ kind_size }
-    ensures output { out.new ≡ overwrite_at out.old 0 (kind ∷ []) }
+    ensures output { out.new ≡ overwrite_at out.old 0 (kind_byte kind ∷ []) }
 {
-    field::put_u8(out, 0, kind);
+    field::put_u8(out, 0, u8::from(kind));
     KIND_SIZE
 }
 
 // A kind and a revision.
-pub fn write_revision(out: &mut [u8], kind: u8, revision: u16) -> usize
+#[tactic(auto, using(field::proofs::OverwriteLaws::overwrite_append, field::proofs::OctetsLaws::length_encode16), unfolding(message::specs::Layout::revision_bytes, field::specs::Octets::encode16))]
+pub fn write_revision(out: &mut [u8], kind: Kind, revision: u16) -> usize
     requires { revision_length ≤ length out.old }
-    ensures sent { result ≡ length (revision_bytes kind revision) }
-    ensures output { out.new ≡ overwrite_at out.old 0 (revision_bytes kind revision) }
+    ensures sent { result ≡ length (revision_bytes (kind_byte kind) revision) }
+    ensures output { out.new ≡ overwrite_at out.old 0 (revision_bytes (kind_byte kind) revision) }
 {
-    field::put_u8(out, 0, kind);
+    field::put_u8(out, 0, u8::from(kind));
     field::put_u16(out, KIND_SIZE, revision);
     REVISION_LENGTH
 }
 
+// Stays: a line stores a field at its place, as the layout has it. A cursor that moves says no more.
+#[tactic(auto, using(field::proofs::OverwriteLaws::overwrite_append, field::proofs::OctetsLaws::length_encode16), unfolding(message::specs::Layout::assignment_bytes, field::specs::Octets::encode16))]
 pub fn write_assignment(
     out: &mut [u8],
     name: &[u8],
@@ -50,7 +54,7 @@ pub fn write_assignment(
     let n = name.len();
     let type_at = ASSIGNMENT_NAME_START + n;
     let value_at = type_at + VALUE_BEHIND_NAME;
-    field::put_u8(out, 0, ASSIGNMENT);
+    field::put_u8(out, 0, u8::from(Kind::Assignment));
     field::put_u16(out, KIND_SIZE, n as u16);
     field::copy_into(out, ASSIGNMENT_NAME_START, name);
     field::put_u8(out, type_at, type_code);
@@ -60,12 +64,13 @@ pub fn write_assignment(
     value_at + value.len()
 }
 
+#[tactic(auto, using(field::proofs::OverwriteLaws::overwrite_append, field::proofs::OctetsLaws::length_encode16), unfolding(message::specs::Layout::update_bytes, field::specs::Octets::encode16))]
 pub fn write_update(out: &mut [u8], id: u16, number: u16, value: &[u8]) -> usize
     requires { length value.now + update_value_start ≤ length out.old }
     ensures sent { result ≡ length (update_bytes id number value.now) }
     ensures output { out.new ≡ overwrite_at out.old 0 (update_bytes id number value.now) }
 {
-    field::put_u8(out, 0, UPDATE);
+    field::put_u8(out, 0, u8::from(Kind::Update));
     field::put_u16(out, KIND_SIZE, id);
     field::put_u16(out, UPDATE_NUMBER_START, number);
     field::copy_into(out, UPDATE_VALUE_START, value);

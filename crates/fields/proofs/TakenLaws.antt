@@ -9,6 +9,7 @@ use mathlib.Core.List.{List}
 use Rattle.field.proofs.ChoiceLaws.{by_test}
 use Rattle.message.specs.Reader.{parse_assignment, parse_update, parse_revision, parse_by_kind, parse_message, of_assignment, of_update, taken_of}
 use Rattle.message.specs.Layout.{longest_assignment}
+use Rattle.message.specs.declared.Decoded.{Decoded}
 use Rattle.message.proofs.TakenLaws.{assignment_fits, update_fits}
 
 data Small (d : Reading) : Type 0 where
@@ -38,8 +39,8 @@ message_small t m =
     by_test Small _ _ _ (λ _. update_small _ _ m _ refl) (λ _. small (omega arith))))))))
     (λ _. small (omega arith))
 
-pub taken_small : (t : ℕ) (m : List ℕ) → taken_of (parse_message t m) ≤ longest_assignment
-taken_small t m = of (message_small t m)
+pub taken_small : (t : ℕ) (m : List ℕ) (d : Decoded) → Ok d ≡ parse_message t m → taken_of (Ok d) ≤ longest_assignment
+taken_small t m d e = of (rw (← e) at (message_small t m))
   where
-    of : {d : Reading} → Small d → taken_of d ≤ longest_assignment
+    of : {d : Decoded} → Small (Ok d) → taken_of (Ok d) ≤ longest_assignment
     of (small h) = h

@@ -72,19 +72,3 @@ fields_in r =
           r.value_length;
       place = r.place;
     }
-
--- C's struct with a number alone
-abbrev pub bare_fields : (number : ℕ) → Fields
-bare_fields number =
-    record {
-      number = number;
-      kind = 0;
-      type_code = 0;
-      revision = 0;
-      id = 0;
-      entry_number = 0;
-      taken = 0;
-      name_length = 0;
-      value_length = 0;
-      place = 0;
-    }

@@ -1,6 +1,7 @@
 -- What calls answer on too few heads, of each type that a call answers with.
+use Rattle.std.specs.Prelude.{Err}
 use Rattle.field.specs.Answer.{unsound}
-use Rattle.scalar.specs.declared.Scalar.TheVariants.{Refused}
+use Rattle.field.specs.declared.Refusal.TheVariants.{Unsound}
 use Rattle.answer.specs.Answers.{bare_answer}
 use Rattle.answer.specs.declared.Answer.{Answer}
 use Rattle.client.specs.Lent.{bare_copied}
@@ -15,4 +16,4 @@ abbrev pub copied_nothing : Copied
 copied_nothing = bare_copied unsound
 
 abbrev pub read_nothing : ScalarAnswer
-read_nothing = scalar_answer (Refused unsound)
+read_nothing = scalar_answer (Err Unsound)

@@ -1,4 +1,5 @@
 -- Answers, computed: after the run of Computed, each answer that a call of the server half may give, and memory and output afterwards.
+use Rattle.std.specs.Prelude.{Ok, Err}
 use mathlib.Core.Path.{◌≡◌, refl}
 use mathlib.Core.Bool.{true}
 use mathlib.Core.List.{List, [], ◌∷◌, ◌++◌}
@@ -10,7 +11,8 @@ use Rattle.utf8.specs.Utf8.{after_first, after_byte, utf8_from, is_utf8}
 use Rattle.text.specs.Text.{parse_text}
 use Rattle.value.specs.Value.{known_type, parse_boolean, parse_element, parse_value, parse_lone}
 use Rattle.scalar.specs.Scalar.{scalar_of, equal_values}
-use Rattle.scalar.specs.declared.Scalar.TheVariants.{Boolean, Neither, Refused}
+use Rattle.scalar.specs.declared.Scalar.TheVariants.{Boolean, Neither}
+use Rattle.field.specs.declared.Refusal.TheVariants.{UnknownId, Unsound}
 use Rattle.message.specs.Layout.{assignment_bytes, update_bytes, revision_bytes}
 use Rattle.reader.specs.Reader.{parse_text_at, parse_value_at}
 use Rattle.message.specs.Reader.{parse_behind_id, parse_after_name, parse_assignment, parse_behind_update_id, parse_update}
@@ -72,10 +74,10 @@ record ComputedCalls : Type 0 where
   fresh_few_marks : (fresh_start 2 (record { table = stale.table; marks = replicate 15 0 })).number ≡ 14
   fresh_refused : (fresh_start 3 stale).memory.table.count ≡ 77
   -- reading
-  boolean_read : read_scalar 2 full.table 0 ≡ Boolean true
-  text_read : read_scalar 2 full.table 1 ≡ Neither
-  read_at_count : read_scalar 2 full.table 2 ≡ Refused 6
-  read_unsound : read_scalar 2 stale.table 0 ≡ Refused 14
+  boolean_read : read_scalar 2 full.table 0 ≡ Ok (Boolean true)
+  text_read : read_scalar 2 full.table 1 ≡ Ok Neither
+  read_at_count : read_scalar 2 full.table 2 ≡ Err UnknownId
+  read_unsound : read_scalar 2 stale.table 0 ≡ Err Unsound
 
 computed_calls : ComputedCalls
 unfolding answers refused_with nothing_sent pick decode16 encode16 overwrite_at bytes_equal passed_by after_first after_byte utf8_from is_utf8 parse_text known_type parse_boolean parse_element parse_value parse_lone scalar_of equal_values assignment_bytes update_bytes revision_bytes parse_text_at parse_value_at parse_behind_id parse_after_name parse_assignment parse_behind_update_id parse_update check_name holder name_held names_differ entry_at tabulate entries_of default_entry heads_with_entry bytes_with_entry heads_with_value bytes_with_value store_entry store_value all_below sound_entry large_enough sound_table sound_marks bit_set test_bit recipient_set hello_answer judge_hello judge_assignment judge_update judge_kind judge_message judge_create judge_write judge execute call_step fresh_start read_scalar memory_after_run

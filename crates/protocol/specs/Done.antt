@@ -1,5 +1,5 @@
 -- What must be done is done: for every limit, in every sound memory, wherever the output has room.
-use Rattle.std.specs.Prelude.{ℕ, ◌^◌, ◌≤◌, ◌<◌, true, false, List, [], ◌∷◌, ◌++◌, ◌≡◌, ◌≢◌, length, get_or, set, replicate}
+use Rattle.std.specs.Prelude.{ℕ, ◌^◌, ◌≤◌, ◌<◌, true, false, List, [], ◌∷◌, ◌++◌, ◌≡◌, ◌≢◌, length, get_or, set, replicate, Ok}
 use Rattle.field.specs.Answer.{done}
 use Rattle.field.specs.Octets.{overwrite_at}
 use Rattle.sequence.specs.SequenceNumber.{next_number, passed_by}
@@ -116,4 +116,4 @@ FreshStartDone =
 -- "Reading an entry by ID answers a Boolean, a Double as a number, or neither where it is text or an array."
 abbrev pub ReadDone : Type 0
 ReadDone =
-    (limit : ℕ) (m : TableMemory) → sound_table limit m ≡ true → (id : ℕ) → id < m.count → read_scalar limit m id ≡ scalar_of (entry_of m id).type (entry_of m id).value
+    (limit : ℕ) (m : TableMemory) → sound_table limit m ≡ true → (id : ℕ) → id < m.count → read_scalar limit m id ≡ Ok (scalar_of (entry_of m id).type (entry_of m id).value)

@@ -1,11 +1,13 @@
 -- What a call answers, and lent memory afterwards.
-use Rattle.std.specs.Prelude.{ℕ, Bool, ◌&&◌, List, [], length, set, replicate, leb, ltb}
-use Rattle.field.specs.Answer.{done, ignored, unknown_id, output_too_short, unsound}
+use Rattle.std.specs.Prelude.{ℕ, Bool, ◌&&◌, List, [], length, set, replicate, leb, ltb, Result, Ok, Err}
+use Rattle.field.specs.Answer.{done, ignored, output_too_short, unsound}
 use Rattle.field.specs.Choice.{demand}
 use Rattle.field.specs.Octets.{overwrite_at}
+use Rattle.field.specs.Refusal.{refusal_number}
+use Rattle.field.specs.declared.Refusal.{Refusal}
+use Rattle.field.specs.declared.Refusal.TheVariants.{UnknownId, Unsound}
 use Rattle.scalar.specs.Scalar.{scalar_of}
 use Rattle.scalar.specs.declared.Scalar.{Scalar}
-use Rattle.scalar.specs.declared.Scalar.TheVariants.{Boolean, Double, Neither, Refused}
 use Rattle.message.specs.Layout.{revision_length, unsupported_kind, assignment_bytes, update_bytes, revision_bytes}
 use Rattle.table.specs.Table.{TableMemory, emptied, entry_at, entries_of, store_entry, store_value}
 use Rattle.soundness.specs.Sound.{large_enough, sound_table, sound_marks, connections, closed, open', greeted}
@@ -97,15 +99,13 @@ fresh_start limit mem =
     (record { number = done; memory = record { table = emptied mem.table; marks = overwrite_at mem.marks 0 (replicate connections closed) } })
 
 -- "Reading an entry by ID .. Refusals: 14, 6."
-unfoldable pub read_scalar : ℕ → TableMemory → ℕ → Scalar
+unfoldable pub read_scalar : ℕ → TableMemory → ℕ → Result Scalar Refusal
 read_scalar limit m id =
-    demand (sound_table limit m) (Refused unsound)
-    (demand (ltb id m.count) (Refused unknown_id)
-    (scalar_of (entry_at m.heads m.bytes id).type (entry_at m.heads m.bytes id).value))
+    demand (sound_table limit m) (Err Unsound)
+    (demand (ltb id m.count) (Err UnknownId)
+    (Ok (scalar_of (entry_at m.heads m.bytes id).type (entry_at m.heads m.bytes id).value)))
 
 -- the number that a reading is answered with
-abbrev pub number_of : Scalar → ℕ
-number_of (Boolean flag) = done
-number_of (Double number) = done
-number_of Neither = done
-number_of (Refused number) = number
+abbrev pub number_of : Result Scalar Refusal → ℕ
+number_of (Ok scalar) = done
+number_of (Err refusal) = refusal_number refusal

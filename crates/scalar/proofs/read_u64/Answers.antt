@@ -1,11 +1,10 @@
 use native.Mathlib.Omega.{arith}
 use Rattle.field.proofs.OctetsLaws.{decode_at}
 use Rattle.scalar.specs.Scalar.{decode64}
-use borrow.Author.Rules.{rules}
 use Rattle.scalar.proofs.read_u64.Goals as goal
 
 pub returns : goal.returns
 unfolding decode64
 returns c =
     let s = c.args.s.now in
-    rw (decode_at s 2, decode_at s 4, decode_at s 6) (omega (arith, decode_at s 0, c.read_u32-high.ensures.number, c.read_u32-low.ensures.number))
+    rw (decode_at s 2, decode_at s 4, decode_at s 6) (omega (arith, decode_at s 0, c.from_be_bytes.ensures))

@@ -10,14 +10,16 @@ use Rattle.table.specs.Table.{TableMemory, table_memory, entry_at, max_entries}
 use Rattle.soundness.specs.Sound.{sound_table}
 use Rattle.soundness.proofs.ReadableLaws.{StoredEntry, stored_entry}
 use Rattle.scalar.specs.declared.Scalar.{Scalar}
+use Rattle.field.specs.declared.Refusal.{Refusal}
+use Rattle.field.specs.declared.Refusal.TheVariants.{UnknownId, Unsound}
+use Rattle.std.specs.Prelude.{Result, Ok, Err}
 use Rattle.protocol.specs.Judge.{read_entry}
 use Rattle.protocol.specs.Step.{call_step, read_scalar, number_of}
 use Rattle.protocol.proofs.ReadLaws.{read_answered}
-use Rattle.scalar.specs.declared.Scalar.TheVariants as S
 use Rattle.server.proofs.read.Goals as goal
 
 -- the scalar's number is the step's, beside any marks
-with_number : (m : TableMemory) (id : ℕ) (r : Scalar) → r ≡ read_scalar max_entries m id
+with_number : (m : TableMemory) (id : ℕ) (r : Result Scalar Refusal) → r ≡ read_scalar max_entries m id
     → (r ≡ read_scalar max_entries m id)
     × ((marks : List ℕ) → number_of r ≡ (call_step max_entries (record { table = m; marks = marks }) (record { call = read_entry id; output = [] })).number)
 with_number m id r e = (e, λ marks. rw (e, read_answered (record { table = m; marks = marks }) [] max_entries id))
@@ -25,13 +27,13 @@ with_number m id r e = (e, λ marks. rw (e, read_answered (record { table = m; m
 pub returns-then-not-table_is_sound : goal.returns-then-not-table_is_sound
 unfolding pick read_scalar
 returns-then-not-table_is_sound c =
-    let p = with_number (table_memory c.args.heads.now c.args.bytes.now c.args.count) c.args.id (S.Refused 14) (rw (← c.table_is_sound.ensures, c.if-not-table_is_sound.true)) in
+    let p = with_number (table_memory c.args.heads.now c.args.bytes.now c.args.count) c.args.id (Err Unsound) (rw (← c.table_is_sound.ensures, c.if-not-table_is_sound.true)) in
     record { scalar = p.0; number = p.1 }
 
 pub returns-then-id-count : goal.returns-then-id-count
 unfolding pick read_scalar
 returns-then-id-count c =
-    let p = with_number (table_memory c.args.heads.now c.args.bytes.now c.args.count) c.args.id (S.Refused 6) (rw (← c.table_is_sound.ensures, c.if-not-table_is_sound.false, le-ltb _ _ c.if-id-count.true)) in
+    let p = with_number (table_memory c.args.heads.now c.args.bytes.now c.args.count) c.args.id (Err UnknownId) (rw (← c.table_is_sound.ensures, c.if-not-table_is_sound.false, le-ltb _ _ c.if-id-count.true)) in
     record { scalar = p.0; number = p.1 }
 
 pub type_of-requires : goal.type_of-requires
@@ -57,5 +59,5 @@ pub returns : goal.returns
 unfolding entry_at pick read_scalar
 returns c =
     let sound : sound_table max_entries ((table_memory c.args.heads.now c.args.bytes.now c.args.count)) ≡ true = sym c.table_is_sound.ensures ∙ c.if-not-table_is_sound.false in
-    let p = with_number (table_memory c.args.heads.now c.args.bytes.now c.args.count) c.args.id c.scalar_of.result (rw (c.scalar_of.ensures, sound, lt-ltb c.args.id c.args.count c.if-id-count.false, c.value_of.ensures, c.type_of.ensures c.args.bytes.now)) in
+    let p = with_number (table_memory c.args.heads.now c.args.bytes.now c.args.count) c.args.id (Ok c.scalar_of.result) (rw (c.scalar_of.ensures, sound, lt-ltb c.args.id c.args.count c.if-id-count.false, c.value_of.ensures, c.type_of.ensures c.args.bytes.now)) in
     record { scalar = p.0; number = p.1 }
