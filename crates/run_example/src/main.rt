@@ -38,8 +38,8 @@ fn kept(span: Span, start: usize, a: &Answer, weight: u16, hello: bool) -> Span 
 fn lent(span: Span, room: usize, length: usize) -> Span
     ensures { (result.start ≤ result.end) × (result.end ≤ length) }
 {
-    let start = script::least(span.end, length);
-    let end = start + script::least(room, length - start);
+    let start = span.end.min(length);
+    let end = start + room.min(length - start);
     Span {
         start: start,
         end: end,

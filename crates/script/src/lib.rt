@@ -4,28 +4,31 @@
 // Answers are printed behind their line.
 #![tactic(auto)]
 
-ghost use Rattle.std.specs.Prelude.{◌≤◌, ◌<◌, length, IfOk};
+ghost use Rattle.std.specs.Prelude.{◌≡◌, ◌+◌, ◌*◌, ◌≤◌, ◌<◌, length, take, drop, slice_index, ℕ, IfOk, OnErr, IfSome};
+ghost use Rattle.std.specs.Io.KnownBytes.{Consumes, IsAtEnd};
 
 use std::io;
 use std::io::Read;
 
-const SPACE: u8 = 32;
+// How many characters a byte has.
+const DIGITS: usize = 2;
 
-const TIMES: u8 = 42;
-
-const BELOW: u8 = 63;
-
-// Reads until the buffer is full or the input ends, and returns how many bytes. The only error is that of a read.
-pub fn read_full(input: &mut impl Read, buffer: &mut [u8]) -> io::Result<usize>
-    ensures { IfOk result (λ n. n ≤ length buffer.new) }
+// Reads until the buffer is full or the input ends, and returns how many bytes. The only error is that of a read: what was read
+// before it stands at the buffer's start too.
+// Stays a loop: `read_exact` tells no number where the input ends early, and reads again where a signal interrupts.
+pub fn read_full<R: Read>(input: &mut R, buffer: &mut [u8]) -> io::Result<usize>
+    ensures within { IfOk result (λ n. n ≤ length buffer.new) }
+    ensures bytes { IfOk result (λ n. Consumes (R.remaining input.old) (R.remaining input.new) (take n buffer.new)) }
+    ensures ended { IfOk result (λ n. n < length buffer.new → IsAtEnd (R.remaining input.new)) }
+    ensures err { OnErr result
+        ((n : ℕ) × (n ≤ length buffer.new) × Consumes (R.remaining input.old) (R.remaining input.new) (take n buffer.new)) }
 {
     let mut end = 0;
     while end < buffer.len() {
-        let n = input.read(&mut buffer[end..])?;
-        if n == 0 {
-            return Ok(end);
+        match input.read(&mut buffer[end..])? {
+            0 => break,
+            n => end += n,
         }
-        end += n;
     }
     Ok(end)
 }
@@ -43,137 +46,103 @@ pub fn figure(rt: &impl Print, n: usize) -> io::Result<()> {
     print!(rt; " {n}")
 }
 
-pub fn least(a: usize, b: usize) -> usize
-    ensures { (result ≤ a) × (result ≤ b) }
-{
-    if a < b {
-        return a;
-    }
-    b
-}
-
 // Where a byte stands from a place on: the end where it does not.
 pub fn find(s: &[u8], from: usize, b: u8) -> usize
     requires { from ≤ length s.now }
     ensures { (from ≤ result) × (result ≤ length s.now) }
 {
-    let mut at = from;
-    while at < s.len() {
-        if s[at] == b {
-            return at;
-        }
-        at += 1;
+    match s[from..].iter().position(|&x| x == b) {
+        Some(n) => from + n,
+        None => s.len(),
     }
-    at
-}
-
-fn digit(c: u8) -> u8
-    ensures { result ≤ 15 }
-{
-    if c < 58 {
-        return c % 16;
-    }
-    (c % 64 + 9) % 16
 }
 
 // The byte at a place: 0 where it is not there.
-pub fn octet(s: &[u8], at: usize) -> u8 {
-    if at < s.len() {
-        return s[at];
-    }
-    0
-}
-
-fn wide(b: u8) -> u16
-    ensures { result ≤ 255 }
+pub fn octet(s: &[u8], at: usize) -> u8
+    ensures { result ≡ slice_index s.now at }
 {
-    b as u16
+    s.get(at).copied().unwrap_or(0)
 }
 
 // The two bytes at a place, the higher one first.
-pub fn number(s: &[u8], at: usize) -> u16 {
-    if s.len() <= at {
-        return 0;
-    }
-    wide(s[at]) * 256 + wide(octet(s, at + 1))
+pub fn number(s: &[u8], at: usize) -> u16
+    ensures { result ≡ slice_index s.now at * 256 + slice_index s.now (at + 1) }
+{
+    let s = after(s, at);
+    u16::from_be_bytes([octet(s, 0), octet(s, 1)])
 }
 
 // The bytes from a place on: none where there are none.
-pub fn after<'a>(s: &'a [u8], at: usize) -> &'a [u8] {
-    let start = least(at, s.len());
-    &s[start..]
+pub fn after(s: &[u8], at: usize) -> &[u8]
+    ensures { result.now ≡ drop at s.now }
+{
+    &s[at.min(s.len())..]
 }
 
 // So many bytes at the start, or all.
-pub fn before<'a>(s: &'a [u8], n: usize) -> &'a [u8] {
-    let end = least(n, s.len());
-    &s[0..end]
-}
-
-// The byte that two hex digits at a place stand for.
-fn hex(s: &[u8], at: usize) -> u8 {
-    if s.len() <= at {
-        return 0;
-    }
-    digit(s[at]) * 16 + digit(octet(s, at + 1))
-}
-
-fn mixed(x: u64) -> u64
-    ensures { result < 65536 }
+pub fn before(s: &[u8], n: usize) -> &[u8]
+    ensures { result.now ≡ take n s.now }
 {
-    x % 2147483648 * 2654435761 % 4294967296 / 65536
+    &s[..n.min(s.len())]
+}
+
+// What a hex digit stands for. Other characters stand for something too.
+fn digit(c: u8) -> u8
+    ensures { result ≤ 15 }
+{
+    if c <= b'9' { c % 16 } else { (c % 64 + 9) % 16 }
+}
+
+// The byte that the two digits at the start stand for. One that is not there is 0.
+fn hex(s: &[u8]) -> u8 {
+    digit(octet(s, 0)) * 16 + digit(octet(s, 1))
+}
+
+// The middle of a product: its higher half of the lower 32 bits.
+fn mixed(x: u32) -> u16 {
+    (x.wrapping_mul(2654435761) >> 16) as u16
 }
 
 fn chosen(seed: u64, at: usize, bound: u8) -> u8 {
     if bound == 0 {
         return 0;
     }
-    let x = mixed(seed % 65536 * 512 + at as u64 % 512);
-    (mixed(x * 509 + seed % 65536) % bound as u64 % 256) as u8
+    let seed = (seed % 65536) as u32;
+    let x = mixed(seed * 512 + (at % 512) as u32);
+    (mixed(u32::from(x) * 509 + seed) % u16::from(bound)) as u8
 }
 
-// How many characters of the line are one piece of it.
-fn width(s: &[u8]) -> usize
-    ensures { (1 ≤ result) × (result ≤ 5) }
+// What a line is made of.
+#[derive(Clone, Copy)]
+enum Piece {
+    Gap,
+    Byte(u8),
+    Below(u8),
+    Times(u8, u8),
+}
+
+impl Piece {
+    // The byte that it is at a place, and how many times.
+    fn run(self, seed: u64, at: usize) -> (u8, u8) {
+        match self {
+            Piece::Gap => (0, 0),
+            Piece::Byte(b) => (b, 1),
+            Piece::Below(bound) => (chosen(seed, at, bound), 1),
+            Piece::Times(b, times) => (b, times),
+        }
+    }
+}
+
+// The first piece of what is left of a line, and the rest behind it.
+fn split_piece(s: &[u8]) -> Option<(Piece, &[u8])>
+    ensures { IfSome result (λ p. length p.1.now < length s.now) }
 {
-    let first = octet(s, 0);
-    if first == SPACE {
-        return 1;
-    }
-    if first == BELOW {
-        return 3;
-    }
-    if octet(s, 2) == TIMES {
-        return 5;
-    }
-    2
-}
-
-fn put(out: &mut [u8], at: usize, b: u8) -> usize {
-    if out.len() <= at {
-        return at;
-    }
-    out[at] = b;
-    at + 1
-}
-
-fn put_times(out: &mut [u8], at: usize, b: u8, times: u8) -> usize {
-    let mut end = at;
-    let mut i = 0;
-    while i < times {
-        end = put(out, end, b);
-        i += 1;
-    }
-    end
-}
-
-// The bytes of a piece with so many characters, and where they end.
-fn put_piece(out: &mut [u8], at: usize, s: &[u8], width: usize, seed: u64) -> usize {
-    match width {
-        1 => at,
-        2 => put(out, at, hex(s, 0)),
-        3 => put(out, at, chosen(seed, at, hex(s, 1))),
-        _ => put_times(out, at, hex(s, 0), hex(s, 3)),
+    match s {
+        [] => None,
+        [b' ', rest @ ..] => Some((Piece::Gap, rest)),
+        [b'?', rest @ ..] => Some((Piece::Below(hex(rest)), after(rest, DIGITS))),
+        [_, _, b'*', rest @ ..] => Some((Piece::Times(hex(s), hex(rest)), after(rest, DIGITS))),
+        _ => Some((Piece::Byte(hex(s)), after(s, DIGITS))),
     }
 }
 
@@ -181,13 +150,14 @@ fn put_piece(out: &mut [u8], at: usize, s: &[u8], width: usize, seed: u64) -> us
 pub fn decode(line: &[u8], from: usize, seed: u64, out: &mut [u8]) -> usize
     ensures { result ≤ length out.new }
 {
+    let mut rest = after(line, from);
     let mut end = 0;
-    let mut at = from;
-    while at < line.len() {
-        let rest = &line[at..];
-        let n = width(rest);
-        end = put_piece(out, end, rest, n, seed);
-        at += n;
+    while let Some((piece, behind)) = split_piece(rest) {
+        let (b, times) = piece.run(seed, end);
+        let next = end + usize::from(times).min(out.len() - end);
+        out[end..next].fill(b);
+        end = next;
+        rest = behind;
     }
-    least(end, out.len())
+    end
 }

@@ -4,9 +4,8 @@
 ghost use Rattle.std.specs.Prelude.{◌≡◌};
 ghost use Rattle.sequence.specs.SequenceNumber.{start, next_number, distance, passed_by};
 
-use std::num::{wrapping_add_u16, wrapping_sub_u16};
-
-#[derive(Drop)]
+// Equal or not, and no more: "greater than" is not transitive, so it is no order for `Ord` (`NoTotalOrder`).
+#[derive(Clone, Copy, PartialEq, Eq)]
 pub struct SequenceNumber(pub u16);
 
 impl SequenceNumber {
@@ -25,17 +24,14 @@ impl SequenceNumber {
     pub fn next(self) -> SequenceNumber
         ensures { result.0 ≡ next_number self.0 }
     {
-        let n = self.0;
-        SequenceNumber(wrapping_add_u16(n, 1))
+        SequenceNumber(self.0.wrapping_add(1))
     }
 
     // Received minus stored, modulo 65,536.
     pub fn distance(self, received: SequenceNumber) -> u16
         ensures { result ≡ distance self.0 received.0 }
     {
-        let stored = self.0;
-        let got = received.0;
-        wrapping_sub_u16(got, stored)
+        received.0.wrapping_sub(self.0)
     }
 
     // Whether the received number is strictly greater than this stored one, as RFC 1982, 3.2, has it. s1 is the received number and s2
@@ -43,6 +39,7 @@ impl SequenceNumber {
     // "s1 is said to be greater than s2 if, and only if, s1 is not equal to s2, and
     //      (i1 < i2 and i2 - i1 > 2^(SERIAL_BITS - 1)) or
     //      (i1 > i2 and i1 - i2 < 2^(SERIAL_BITS - 1))"
+    #[tactic(auto, using(std::proofs::lemmas::Bool::Decides::leb_tells), unfolding(crate::specs::SequenceNumber::passed_by))]
     pub fn is_passed_by(self, received: SequenceNumber) -> bool
         ensures { result ≡ passed_by self.0 received.0 }
     {

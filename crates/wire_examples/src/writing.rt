@@ -50,7 +50,7 @@ fn show(rt: &impl Print, out: &[u8], lent: &[u8], sent: usize, update_type: u8) 
 
 // Kind, type, room (2), the name's length, name and value.
 fn write(s: &[u8], out: &mut [u8]) -> Answer {
-    let room = script::least(script::number(s, 2) as usize, out.len());
+    let room = usize::from(script::number(s, 2)).min(out.len());
     let name_length = script::octet(s, 4) as usize;
     let fields = script::after(s, 5);
     writer::write_message(
