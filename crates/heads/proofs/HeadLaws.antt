@@ -47,7 +47,7 @@ module _ (f : List ℕ) (i : ℕ) (h : Head) where
   abbrev f₃ : List ℕ
   f₃ = set f₂ (i * 4 + 2) h.type_code
 
-  -- a number that is no_head of the four is as it was
+  -- a number that is none of the four is as it was
   past : (j : ℕ) → (j < i * 4) ⊎ (i * 4 + 3 < j) → get_or (with_head f i h) j 0 ≡ get_or f j 0
   past j o = get_or-set_other f₃ (i * 4 + 3) j h.number 0 (λ e. apart 3 (omega arith) e) ∙ get_or-set_other f₂ (i * 4 + 2) j h.type_code 0 (λ e. apart 2 (omega arith) e) ∙ get_or-set_other f₁ (i * 4 + 1) j h.value_length 0 (λ e. apart 1 (omega arith) e) ∙ get_or-set_other f (i * 4) j h.name_length 0 (λ e. apart 0 (omega arith) (e ∙ plus))
     where

@@ -17,17 +17,6 @@ pub struct Head {
     pub number: u16,
 }
 
-// How many heads are made of the numbers: none unless the number is 0.
-#[tactic(auto, unfolding(crate::specs::Heads::changed, field::specs::Choice::pick))]
-fn changed(number: u8) -> usize
-    ensures { result ≡ changed number }
-{
-    if number != DONE {
-        return 0;
-    }
-    table::MAX_ENTRIES
-}
-
 // One head becomes four numbers.
 fn put_head(flat: &mut [u16], i: usize, h: Head)
     requires { i * head_size + number_field < length flat.old }
@@ -60,24 +49,21 @@ pub fn load(heads: &[Head], flat: &mut [u16])
     requires { (max_entries ≤ length heads.now) × (head_numbers ≤ length flat.old) }
     ensures { flat.new ≡ loaded max_entries heads.now flat.old }
 {
-    let mut i: usize = 0;
-    while i < table::MAX_ENTRIES {
-        let h = heads[i];
-        put_head(flat, i, h);
-        i += 1;
+    for i in 0..table::MAX_ENTRIES {
+        put_head(flat, i, heads[i]);
     }
 }
 
 // The numbers become the heads of a table again, where the number is 0.
-#[tactic(auto, using(crate::proofs::HeadLaws::storing), unfolding(crate::specs::Heads::stored))]
+#[tactic(auto, using(crate::proofs::HeadLaws::storing), unfolding(crate::specs::Heads::stored, crate::specs::Heads::changed, field::specs::Choice::pick))]
 pub fn store(number: u8, flat: &[u16], heads: &mut [Head])
     requires { (max_entries ≤ length heads.old) × (head_numbers ≤ length flat.now) }
     ensures { heads.new ≡ stored (changed number) flat.now heads.old }
 {
-    let n = changed(number);
-    let mut i: usize = 0;
-    while i < n {
+    if number != DONE {
+        return;
+    }
+    for i in 0..table::MAX_ENTRIES {
         heads[i] = head_at(flat, i);
-        i += 1;
     }
 }
