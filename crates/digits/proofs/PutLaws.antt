@@ -2,7 +2,7 @@
 use mathlib.Core.Path.{◌≡◌, refl, sym, ap, ◌∙◌}
 use mathlib.Core.List.{List, [], ◌∷◌, ◌++◌}
 use mathlib.Core.Bool.{Bool, true, false}
-use Prim.Native.Nat.{ℕ, zero, suc, ◌+◌, ◌≤◌, ◌<◌}
+use Prim.Native.Nat.{ℕ, zero, suc, ◌+◌, ◌≤◌, ◌<◌, min}
 use native.Mathlib.Omega.{arith}
 use lib.Dec.{leb}
 use borrow.Author.Tests.{leb-true, leb-false}
@@ -11,7 +11,7 @@ use lib.ListN.{length, take, set, get_or, length-append}
 use lib.Seq.{take-suc}
 use Rattle.field.specs.Octets.{overwrite_at}
 use Rattle.field.proofs.OverwriteLaws.{length_overwrite, overwrite_append}
-use Rattle.digits.specs.Put.{Put}
+use Rattle.digits.specs.Put.{Put, Written, with_text}
 
 -- a store behind the end changes nothing
 set_past : (xs : List ℕ) (at y : ℕ) → length xs ≤ at → set xs at y ≡ xs
@@ -19,74 +19,49 @@ set_past [] at y h = refl
 set_past (x ∷ xs) zero y h = absurd (omega arith)
 set_past (x ∷ xs) (suc at) y h = ap (λ (l : List ℕ). x ∷ l) (set_past xs at y (omega arith))
 
-overwrite_past : (xs : List ℕ) (at : ℕ) (ys : List ℕ) → length xs ≤ at → overwrite_at xs at ys ≡ xs
+pub overwrite_past : (xs : List ℕ) (at : ℕ) (ys : List ℕ) → length xs ≤ at → overwrite_at xs at ys ≡ xs
 unfolding overwrite_at
 overwrite_past xs at [] h = refl
 overwrite_past xs at (y ∷ ys) h = rw (set_past xs at y h) (overwrite_past xs (at + 1) ys (omega arith))
 
-pub put_nothing : (buffer : List ℕ) (at : ℕ) → at ≤ length buffer → Put buffer at [] buffer at
-unfolding overwrite_at
-put_nothing buffer at h = record { stored = refl; ended = omega arith }
-
-pub put_one : (buffer : List ℕ) (at x : ℕ) → at + 1 ≤ length buffer → Put buffer at (x ∷ []) (set buffer at x) (at + 1)
-unfolding overwrite_at
-put_one buffer at x h = record { stored = refl; ended = omega arith }
-
-pub put_past : (buffer : List ℕ) (at : ℕ) (text : List ℕ) → length buffer ≤ at → Put buffer at text buffer (length buffer)
-put_past buffer at text h = record { stored = sym (overwrite_past buffer at text h); ended = omega arith }
-
-pub put_length : {buffer text now : List ℕ} {at end : ℕ} → Put buffer at text now end → length now ≡ length buffer
-put_length {buffer} {text} {at = at} p = ap length p.stored ∙ length_overwrite buffer at text
-
--- text behind text
-pub put_next : {buffer text now more now' : List ℕ} {at end end' : ℕ} → Put buffer at text now end → Put now end more now' end'
-    → Put buffer at (text ++ more) now' end'
-put_next {buffer} {text} {now} {more} {now'} {at} {end} {end'} p q =
-    let l = put_length p in
-    record {
-      stored = q.stored ∙ go (leb (at + length text) (length buffer)) refl;
-      ended = simp length-append (omega (arith, p.ended, q.ended));
-    }
+-- text behind text, where that ends, or where the buffer does
+overwrite_next : (xs : List ℕ) (at end : ℕ) (s t : List ℕ) → end ≡ min (at + length s) (length xs)
+    → overwrite_at (overwrite_at xs at s) end t ≡ overwrite_at xs at (s ++ t)
+overwrite_next xs at end s t e = go (leb (at + length s) (length xs)) refl
   where
-    within : at + length text ≤ length buffer → overwrite_at now end more ≡ overwrite_at buffer at (text ++ more)
-    within h = rw p.stored (overwrite_append buffer at text more end (omega (arith, p.ended)))
+    go : (b : Bool) → leb (at + length s) (length xs) ≡ b → overwrite_at (overwrite_at xs at s) end t ≡ overwrite_at xs at (s ++ t)
+    go true h =
+        let l : at + length s ≤ length xs = leb-true _ _ h in
+        overwrite_append xs at s t end (omega arith)
+    go false h =
+        let l : length xs < at + length s = leb-false _ _ h in
+        let within : length (overwrite_at xs at s) ≤ end = simp length_overwrite (omega arith) in
+        let beyond : length (overwrite_at xs at s) ≤ at + length s = simp length_overwrite (omega arith) in
+        overwrite_past (overwrite_at xs at s) end t within
+        ∙ sym (overwrite_past (overwrite_at xs at s) (at + length s) t beyond)
+        ∙ overwrite_append xs at s t (at + length s) refl
 
-    beyond : length buffer ≤ at + length text → overwrite_at now end more ≡ overwrite_at buffer at (text ++ more)
-    beyond h =
-        let e : length now ≤ end = omega (arith, p.ended, put_length p) in
-        overwrite_past now end more e ∙ p.stored
-        ∙ sym (overwrite_past (overwrite_at buffer at text) (at + length text) more (simp length_overwrite h))
-        ∙ overwrite_append buffer at text more (at + length text) refl
+-- ---- the text so far, and text behind it
 
-    go : (b : Bool) → leb (at + length text) (length buffer) ≡ b → overwrite_at now end more ≡ overwrite_at buffer at (text ++ more)
-    go true t = within (leb-true _ _ t)
-    go false t =
-        let l : length buffer < at + length text = leb-false _ _ t in
-        beyond (omega arith)
+pub with_text_next : (w : Written) (s t : List ℕ) → with_text (with_text w s) t ≡ with_text w (s ++ t)
+unfolding with_text
+with_text_next w s t i = record { bytes = overwrite_next w.bytes w.end _ s t refl i; end = ended i }
+  where
+    ended : min (min (w.end + length s) (length w.bytes) + length t) (length (overwrite_at w.bytes w.end s)) ≡ min (w.end + length (s ++ t)) (length w.bytes)
+    ended = simp (length_overwrite, length-append) (omega arith)
 
 -- one more byte of a run
-pub put_more : (buffer : List ℕ) (at : ℕ) (s now now' : List ℕ) (end end' i : ℕ) → i < length s → Put buffer at (take i s) now end → Put now end (get_or s i 0 ∷ []) now' end'
-    → Put buffer at (take (i + 1) s) now' end'
-put_more buffer at s now now' end end' i h p q = rw (add-one i, take-suc s i 0 h) (put_next p q)
+pub with_text_more : (w : Written) (s : List ℕ) (i : ℕ) → i < length s → with_text (with_text w (take i s)) (get_or s i 0 ∷ []) ≡ with_text w (take (i + 1) s)
+with_text_more w s i h = rw (with_text_next, add-one, take-suc s i 0 h)
+
+-- no text: it ends within the buffer
+pub with_text_none : (w : Written) (e : ℕ) → e ≡ min w.end (length w.bytes) → record { bytes = w.bytes; end = e } ≡ with_text w []
+unfolding with_text overwrite_at
+with_text_none w e h i = record { bytes = w.bytes; end = ended i }
+  where
+    ended : e ≡ min (w.end + 0) (length w.bytes)
+    ended = omega arith
 
 -- text ends within the buffer
 pub put_within : {buffer text now : List ℕ} {at end : ℕ} → Put buffer at text now end → end ≤ length now
-put_within p = omega (arith, p.ended, put_length p)
-
--- ---- text whose last part is still to be put
-
--- what puts the rest behind the text so far puts the whole, from a place of a buffer on
-pub record Leads (buffer : List ℕ) (at : ℕ) (whole text : List ℕ) (end : ℕ) (rest : List ℕ) : Type 0 where
-  pub leads : {now : List ℕ} {last : ℕ} → Put text end rest now last → Put buffer at whole now last
-
-pub leads_start : {buffer whole : List ℕ} {at : ℕ} → Leads buffer at whole buffer at whole
-leads_start = record { leads = λ p. p }
-
--- one part more
-pub leads_next : {buffer whole text part rest text' : List ℕ} {at end end' : ℕ} → Leads buffer at whole text end (part ++ rest) → Put text end part text' end'
-    → Leads buffer at whole text' end' rest
-leads_next l p = record { leads = λ q. l.leads (put_next p q) }
-
--- nothing is left
-pub leads_end : {buffer whole text : List ℕ} {at end : ℕ} → Leads buffer at whole text end [] → end ≤ length text → Put buffer at whole text end
-leads_end {text = text} {end = end} l h = l.leads (put_nothing text end h)
+put_within {buffer} {text} {at = at} p = omega (arith, p.ended, ap length p.stored ∙ length_overwrite buffer at text)

@@ -3,72 +3,72 @@
 
 ghost use Rattle.std.specs.Prelude.{◌≡◌, ◌∷◌, [], ◌<◌};
 ghost use Rattle.digits.specs.Digits.{decimal_text, hex_digit, hex_text};
-ghost use Rattle.digits.specs.Put.{Put};
+ghost use Rattle.digits.specs.Put.{Puts};
 
-// Each of these puts text at a place as far as there is room, and returns where it ends.
-pub fn put(text: &mut [u8], at: usize, x: u8) -> usize
-    ensures { Put text.old at (x ∷ []) text.new result }
-{
-    if text.len() <= at {
-        return text.len();
-    }
-    text[at] = x;
-    at + 1
+// A buffer, and where the text so far ends in it.
+#[derive(Drop)]
+pub struct Text<'a> {
+    pub bytes: &'a mut [u8],
+    pub end: usize,
 }
 
-// Nothing: where the buffer ends before the place, it ends there.
-pub fn put_nothing(text: &mut [u8], at: usize) -> usize
-    ensures { Put text.old at [] text.new result }
-{
-    if text.len() <= at {
-        return text.len();
+// Each of these puts text behind the text so far, as far as there is room.
+impl Text<'_> {
+    #[tactic(auto, using(crate::proofs::PutLaws::overwrite_past), unfolding(crate::specs::Put::with_text, field::specs::Octets::overwrite_at))]
+    pub fn byte(&mut self, b: u8)
+        ensures { Puts self.old self.new (b ∷ []) }
+    {
+        if self.bytes.len() <= self.end {
+            self.end = self.bytes.len();
+            return;
+        }
+        self.bytes[self.end] = b;
+        self.end += 1;
     }
-    at
+
+    #[tactic(auto, using(crate::proofs::PutLaws::with_text_none, crate::proofs::PutLaws::with_text_more))]
+    pub fn bytes(&mut self, s: &[u8])
+        ensures { Puts self.old self.new s.now }
+    {
+        self.end = self.end.min(self.bytes.len());
+        for b in s {
+            self.byte(*b);
+        }
+    }
+
+    // Stays: std says nothing of a `write!` that fails, and these digits are promised without fail.
+    #[tactic(auto, using(crate::proofs::PutLaws::with_text_next, crate::proofs::DigitLaws::one_digit, crate::proofs::DigitLaws::more_digits))]
+    pub fn decimal(&mut self, n: usize)
+        ensures { Puts self.old self.new (decimal_text n) }
+    {
+        if n < 10 {
+            return self.byte(b'0' + n as u8);
+        }
+        self.decimal(n / 10);
+        self.byte(b'0' + (n % 10) as u8);
+    }
+
+    // Four digits.
+    #[tactic(auto, unfolding(crate::specs::Digits::hex_text))]
+    pub fn hex(&mut self, n: u16)
+        ensures { Puts self.old self.new (hex_text n) }
+    {
+        self.bytes(&[
+            hex_digit(n / 4096),
+            hex_digit(n / 256 % 16),
+            hex_digit(n / 16 % 16),
+            hex_digit(n % 16),
+        ]);
+    }
 }
 
-pub fn put_bytes(text: &mut [u8], at: usize, s: &[u8]) -> usize
-    ensures { Put text.old at s.now text.new result }
-{
-    if text.len() <= at {
-        return text.len();
-    }
-    let mut end = at;
-    let mut i = 0;
-    while i < s.len() {
-        end = put(text, end, s[i]);
-        i += 1;
-    }
-    end
-}
-
-pub fn put_decimal(text: &mut [u8], at: usize, n: usize) -> usize
-    ensures { Put text.old at (decimal_text n) text.new result }
-{
-    if n < 10 {
-        return put(text, at, 48 + n as u8);
-    }
-    let end = put_decimal(text, at, n / 10);
-    put(text, end, 48 + (n % 10) as u8)
-}
-
+#[tactic(auto, unfolding(crate::specs::Digits::hex_digit, field::specs::Choice::pick))]
 pub fn hex_digit(d: u16) -> u8
     requires { d < 16 }
     ensures { result ≡ hex_digit d }
 {
     if d < 10 {
-        return 48 + d as u8;
+        return b'0' + d as u8;
     }
-    87 + d as u8
-}
-
-pub fn put_hex(text: &mut [u8], at: usize, n: u16) -> usize
-    ensures { Put text.old at (hex_text n) text.new result }
-{
-    let digits = [
-        hex_digit(n / 4096),
-        hex_digit(n / 256 % 16),
-        hex_digit(n / 16 % 16),
-        hex_digit(n % 16),
-    ];
-    put_bytes(text, at, &digits)
+    b'a' - 10 + d as u8
 }
