@@ -1,6 +1,7 @@
 -- Laws of the set of recipients.
+use Rattle.std.specs.Prelude.{Option, Some, None}
 use mathlib.Core.Path.{◌≡◌, refl, sym, ap, ◌∙◌}
-use mathlib.Core.Bool.{Bool, true, false, and-true, and-false}
+use mathlib.Core.Bool.{Bool, true, false, and-false}
 use mathlib.Core.List.{List}
 use Prim.Native.Nat.{ℕ, zero, suc, ◌+◌, ◌-◌, ◌*◌, ◌/◌, ◌%◌, ◌^◌, ◌≤◌, ◌<◌}
 use native.Mathlib.Nat.{not-suc-le-zero, zero-mul, one-mul, add-mul-div_right, add-mul-mod_self_right, div-eq_of_lt, pow-suc, mul_assoc, mul_comm}
@@ -12,7 +13,7 @@ use lib.Pow.{pow_pos, pow-add}
 use lib.ListN.{get_or}
 use borrow.Author.Tests.{eq-eqb, ne_eqb}
 use Rattle.field.specs.Choice.{pick}
-use Rattle.recipients.specs.Recipients.{nobody, sender, all_greeted, other_greeted, is_recipient, bit_set, test_bit, recipient_set, RecipientBit, GreetedReceives}
+use Rattle.recipients.specs.Recipients.{greeted_but, is_greeted_but, nobody, sender, all_greeted, other_greeted, is_recipient, bit_set, test_bit, recipient_set, RecipientBit, GreetedReceives}
 
 -- ---- one bit more
 
@@ -128,9 +129,7 @@ pub sender_set : (marks : List ℕ) (c : ℕ) → c < 16 → recipient_set (send
 unfolding recipient_set
 sender_set marks c h = bits_single 16 c h
 
--- no connection has the number 16
-pub others_all : (marks : List ℕ) → recipient_set (other_greeted 16) marks ≡ recipient_set all_greeted marks
-unfolding recipient_set
-others_all marks =
-    bits_same 16 (is_recipient (other_greeted 16) marks) (is_recipient all_greeted marks) (λ c h.
-    rw (ne_eqb c 16 (λ e. absurd (omega arith))) (and-true (eqb (get_or marks c 0) 2)))
+-- a connection is to receive where its mark and number say so
+pub greeted_bit : (left_out : Option ℕ) (marks : List ℕ) (c : ℕ) → is_greeted_but left_out (get_or marks c 0) c ≡ is_recipient (greeted_but left_out) marks c
+greeted_bit None marks c = refl
+greeted_bit (Some d) marks c = refl

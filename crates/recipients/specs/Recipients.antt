@@ -1,5 +1,5 @@
 -- "Recipients are a 16-bit set, bit c for connection c."
-use Rattle.std.specs.Prelude.{ℕ, zero, suc, ◌+◌, ◌/◌, ◌%◌, ◌^◌, ◌<◌, Bool, true, false, not, ◌&&◌, List, ◌≢◌, ◌≡◌, get_or, eqb}
+use Rattle.std.specs.Prelude.{ℕ, zero, suc, ◌+◌, ◌/◌, ◌%◌, ◌^◌, ◌<◌, Bool, true, false, not, ◌&&◌, List, ◌≢◌, ◌≡◌, get_or, eqb, Option, Some, None}
 use Rattle.field.specs.Choice.{pick}
 use Rattle.soundness.specs.Sound.{connections, greeted}
 
@@ -15,6 +15,16 @@ is_recipient nobody marks c = false
 is_recipient (sender d) marks c = eqb c d
 is_recipient all_greeted marks c = eqb (get_or marks c 0) greeted
 is_recipient (other_greeted d) marks c = eqb (get_or marks c 0) greeted && not (eqb c d)
+
+-- to all greeted connections but one, or to all
+abbrev pub greeted_but : Option ℕ → Recipients
+greeted_but None = all_greeted
+greeted_but (Some d) = other_greeted d
+
+-- so a connection with this mark is one of them
+abbrev pub is_greeted_but : Option ℕ → (mark c : ℕ) → Bool
+is_greeted_but None mark c = eqb mark greeted
+is_greeted_but (Some d) mark c = eqb mark greeted && not (eqb c d)
 
 -- bit c, which weighs 2 ^ c, is set where p c is true, for each c below n
 unfoldable pub bit_set : ℕ → (ℕ → Bool) → ℕ

@@ -1,54 +1,41 @@
 // The set of recipients.
 #![tactic(auto)]
 
-ghost use Rattle.std.specs.Prelude.{◌≡◌, ◌&&◌, not, ◌≤◌, ◌<◌, length, eqb};
+ghost use Rattle.std.specs.Prelude.{◌≡◌, ◌^◌, ◌≤◌, ◌<◌, List, ℕ, length};
 ghost use Rattle.field.specs.Choice.{pick};
-ghost use Rattle.recipients.specs.Recipients.{sender, other_greeted, recipient_set};
-ghost use Rattle.soundness.specs.Sound.{connections, greeted};
+ghost use Rattle.recipients.specs.Recipients.{sender, greeted_but, is_greeted_but, recipient_set};
+ghost use Rattle.soundness.specs.Sound.{connections};
 
-// The number of no connection: all greeted are those but no one.
-pub const NO_ONE: usize = soundness::CONNECTIONS;
-
-// The weight of a connection that is greeted and not the one left out, and else 0.
+// The bit of a connection that is greeted and not the one left out, and else 0.
 #[tactic(auto, unfolding(field::specs::Choice::pick))]
-fn weight(mark: u8, c: usize, left_out: usize, power: u32) -> u32
-    ensures { result ≡ pick (eqb mark greeted && not (eqb c left_out)) power 0 }
+fn bit_of(mark: u8, c: usize, left_out: Option<usize>) -> u16
+    requires { c < connections }
+    ensures { result ≡ pick (is_greeted_but left_out mark c) (2 ^ c) 0 }
 {
-    if mark != soundness::GREETED {
-        return 0;
+    if mark == soundness::GREETED && left_out != Some(c) {
+        1 << c
+    } else {
+        0
     }
-    if c == left_out {
-        return 0;
-    }
-    power
 }
 
-// All greeted connections but one.
-pub fn other_greeted(marks: &[u8], left_out: usize) -> u16
+// All greeted connections but one, or all.
+pub fn greeted_but(marks: &[u8], left_out: Option<usize>) -> u16
     requires { connections ≤ length marks.now }
-    ensures { result ≡ recipient_set (other_greeted left_out) marks.now }
+    ensures { result ≡ recipient_set (greeted_but left_out) marks.now }
 {
-    let mut set: u32 = 0;
-    let mut power: u32 = 1;
-    let mut c = 0;
-    while c < soundness::CONNECTIONS {
-        set += weight(marks[c], c, left_out, power);
-        power *= 2;
-        c += 1;
+    let mut set = 0;
+    for (c, mark) in marks[..soundness::CONNECTIONS].iter().enumerate() {
+        set += bit_of(*mark, c, left_out);
     }
-    set as u16
+    set
 }
 
 // The sender alone.
-pub fn only_sender(marks: &[u8], c: usize) -> u16
+#[tactic(auto, using(crate::proofs::RecipientLaws::sender_set))]
+pub fn only_sender(c: usize) -> u16
     requires { c < connections }
-    ensures { result ≡ recipient_set (sender c) marks.now }
+    ensures { (marks : List ℕ) → result ≡ recipient_set (sender c) marks }
 {
-    let mut power: u32 = 1;
-    let mut i = 0;
-    while i < c {
-        power *= 2;
-        i += 1;
-    }
-    power as u16
+    1 << c
 }
