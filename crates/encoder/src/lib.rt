@@ -6,11 +6,11 @@ ghost use Rattle.field.specs.Octets.{overwrite_at};
 ghost use Rattle.message.specs.Kinds.{kind_byte};
 ghost use Rattle.message.specs.Layout.{assignment_bytes, update_bytes, revision_bytes};
 ghost use Rattle.message.specs.Layout.{max_name_length, kind_size, revision_length, assignment_fixed, update_value_start};
-ghost use Rattle.message.specs.Lent.{lent_entry};
+ghost use Rattle.message.specs.Lent.{entry_lent};
 
 use message::{
-    ASSIGNMENT_NAME_START, ID_BEHIND_NAME, KIND_SIZE, Kind, NUMBER_BEHIND_NAME, REVISION_LENGTH,
-    UPDATE_NUMBER_START, UPDATE_VALUE_START, VALUE_BEHIND_NAME,
+    ASSIGNMENT_NAME_START, ID_BEHIND_NAME, KIND_SIZE, Kind, LentEntry, NUMBER_BEHIND_NAME,
+    REVISION_LENGTH, UPDATE_NUMBER_START, UPDATE_VALUE_START, VALUE_BEHIND_NAME,
 };
 
 // A message that is its kind alone.
@@ -37,31 +37,24 @@ pub fn write_revision(out: &mut [u8], kind: Kind, revision: u16) -> usize
 
 // Stays: a line stores a field at its place, as the layout has it. A cursor that moves says no more.
 #[tactic(auto, using(field::proofs::OverwriteLaws::overwrite_append, field::proofs::OctetsLaws::length_encode16), unfolding(message::specs::Layout::assignment_bytes, field::specs::Octets::encode16))]
-pub fn write_assignment(
-    out: &mut [u8],
-    name: &[u8],
-    type_code: u8,
-    id: u16,
-    number: u16,
-    value: &[u8],
-) -> usize
-    requires name_fits { length name.now ≤ max_name_length }
-    requires room { length name.now + length value.now + assignment_fixed ≤ length out.old }
-    ensures sent { result ≡ length (assignment_bytes id (lent_entry name.now type_code number value.now)) }
-    ensures output { out.new
-        ≡ overwrite_at out.old 0 (assignment_bytes id (lent_entry name.now type_code number value.now)) }
+pub fn write_assignment(out: &mut [u8], id: u16, entry: LentEntry) -> usize
+    requires name_fits { length entry.name.now ≤ max_name_length }
+    requires type_fits { entry.type_code ≤ 255 }
+    requires room { length entry.name.now + length entry.value.now + assignment_fixed ≤ length out.old }
+    ensures sent { result ≡ length (assignment_bytes id (entry_lent entry.entry)) }
+    ensures output { out.new ≡ overwrite_at out.old 0 (assignment_bytes id (entry_lent entry.entry)) }
 {
-    let n = name.len();
+    let n = entry.name.len();
     let type_at = ASSIGNMENT_NAME_START + n;
     let value_at = type_at + VALUE_BEHIND_NAME;
     field::put_u8(out, 0, u8::from(Kind::Assignment));
     field::put_u16(out, KIND_SIZE, n as u16);
-    field::copy_into(out, ASSIGNMENT_NAME_START, name);
-    field::put_u8(out, type_at, type_code);
+    field::copy_into(out, ASSIGNMENT_NAME_START, entry.name);
+    field::put_u8(out, type_at, entry.type_code as u8);
     field::put_u16(out, type_at + ID_BEHIND_NAME, id);
-    field::put_u16(out, type_at + NUMBER_BEHIND_NAME, number);
-    field::copy_into(out, value_at, value);
-    value_at + value.len()
+    field::put_u16(out, type_at + NUMBER_BEHIND_NAME, entry.number);
+    field::copy_into(out, value_at, entry.value);
+    value_at + entry.value.len()
 }
 
 #[tactic(auto, using(field::proofs::OverwriteLaws::overwrite_append, field::proofs::OctetsLaws::length_encode16), unfolding(message::specs::Layout::update_bytes, field::specs::Octets::encode16))]

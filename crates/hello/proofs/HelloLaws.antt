@@ -112,3 +112,12 @@ pub overwrite_rest : (d l zs : List ℕ) (e : ℕ) → e + length zs ≤ length 
 overwrite_rest d l zs e room h =
     let k : e + 0 ≡ e = omega arith in
     rw h (overwrite_part d e (length d - e) 0 zs (omega arith) (omega arith) ∙ rw k)
+
+-- ---- room for what is left of the answer
+
+pub room_for_next : (n id end k : ℕ) (f : ℕ → Entry) → id < n → end ≡ length (assignments_below id f) → length (hello_answer 0 (tabulate n f)) ≤ k
+    → end + length (assignment_bytes id (f id)) + 1 ≤ k
+room_for_next n id end k f l e h = omega (arith, length_hello_below n f, length_below_more id f, length_below_mono id n f l)
+
+pub room_for_last : (n end k : ℕ) (f : ℕ → Entry) → end ≡ length (assignments_below n f) → length (hello_answer 0 (tabulate n f)) ≤ k → end + 1 ≤ k
+room_for_last n end k f e h = omega (arith, length_hello_below n f)
