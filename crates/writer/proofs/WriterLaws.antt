@@ -1,6 +1,6 @@
 -- Laws of the checks, and of what is answered and written for them.
 use Rattle.std.specs.Prelude.{Err, Ok}
-use mathlib.Core.Path.{◌≡◌, refl, ◌∙◌}
+use mathlib.Core.Path.{◌≡◌, refl}
 use mathlib.Core.Bool.{true}
 use mathlib.Core.List.{List}
 use Prim.Native.Nat.{ℕ, ◌+◌, ◌≤◌, ◌<◌}
@@ -122,24 +122,26 @@ ready_is : (t room : ℕ) (x : Message) (c : Checked) → CheckIs t x c → Read
 ready_is t room x (Checked.allowed y) (CheckIs.allowed w) (ready h) = (refl, w)
 ready_is t room x (Checked.refused _) _ x5 = elim x5 [ ]
 
-module _ (f : Fields) (room : ℕ) (r : Ready room (check f)) where
-  pub ready_assignment : f.kind ≡ assignment_kind
-      → (check f ≡ Checked.allowed (assignment f.id (given_entry f))) × (length f.name ≤ 64) × (length f.name + length f.value + 8 ≤ room)
-  unfolding layout
-  ready_assignment k =
+module _ (f : Fields) (room : ℕ) where
+  pub ready_assignment : Ready room (check_by_kind assignment_kind f)
+      → (check_by_kind assignment_kind f ≡ Checked.allowed (assignment f.id (given_entry f))) × (length f.name ≤ 64)
+      × (length f.name + length f.value + 8 ≤ room)
+  unfolding check_by_kind pick layout
+  ready_assignment r =
       let x = assignment f.id (given_entry f) in
-      let h = ready_is f.type room x (check_assignment f.id (given_entry f)) (assignment_check f.type f.id (given_entry f)) (rw (kind_assignment f k) at r) in
-      let e : check f ≡ Checked.allowed x = kind_assignment f k ∙ h.0 in
+      let c = check_assignment f.id (given_entry f) in
+      let h = ready_is f.type room x c (assignment_check f.type f.id (given_entry f)) r in
       let w : WellFormed (given_entry f) = h.1 in
-      (e, w.name_fits, omega (arith, ready_room room x (check f) e r, length_assignment f.id (given_entry f)))
+      (h.0, w.name_fits, omega (arith, ready_room room x c h.0 r, length_assignment f.id (given_entry f)))
 
-  pub ready_update : f.kind ≡ update_kind → (check f ≡ Checked.allowed (update f.id f.number f.value)) × (length f.value + 5 ≤ room)
-  unfolding layout
-  ready_update k =
+  pub ready_update : Ready room (check_by_kind update_kind f)
+      → (check_by_kind update_kind f ≡ Checked.allowed (update f.id f.number f.value)) × (length f.value + 5 ≤ room)
+  unfolding check_by_kind pick layout
+  ready_update r =
       let x = update f.id f.number f.value in
-      let h = ready_is f.type room x (check_update f.id f.number f.type f.value) (update_check f.id f.number f.type f.value) (rw (kind_update f k) at r) in
-      let e : check f ≡ Checked.allowed x = kind_update f k ∙ h.0 in
-      (e, omega (arith, ready_room room x (check f) e r, length_update f.id f.number f.value))
+      let c = check_update f.id f.number f.type f.value in
+      let h = ready_is f.type room x c (update_check f.id f.number f.type f.value) r in
+      (h.0, omega (arith, ready_room room x c h.0 r, length_update f.id f.number f.value))
 
 -- ---- what is answered and written, by what the message needs
 

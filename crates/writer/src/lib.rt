@@ -1,129 +1,115 @@
 // The message writer of Protocol Revision 2.0: fields are checked, and their message is written.
 #![tactic(auto)]
 
-ghost use Rattle.std.specs.Prelude.{◌≡◌, ℕ, length};
+ghost use Rattle.std.specs.Prelude.{◌≡◌, length};
 ghost use Rattle.field.specs.Octets.{overwrite_at};
-ghost use Rattle.message.specs.Lent.{lent_entry};
-ghost use Rattle.writer.specs.Writer.{lent_fields, check_name, check_assignment, check_update, check};
+ghost use Rattle.message.specs.Kinds.{kind_byte};
+ghost use Rattle.writer.specs.Writer.{check_name, check_by_kind, check};
 ghost use Rattle.writer.specs.Writer.{needed_for, bytes_of, Ready, write_with_place, written};
+ghost use Rattle.writer.specs.Given.{given};
 
 use answer::Answer;
-use field::{NOT_UTF8, Parsed, TOO_LONG, UNKNOWN_KIND, fault_at, fault_of};
+use field::{Fault, Refusal};
 use message::{
-    ASSIGNMENT, ASSIGNMENT_FIXED, HELLO, HELLO_COMPLETE, KEEP_ALIVE, KIND_SIZE, MAX_NAME_LENGTH,
-    REVISION_LENGTH, UNSUPPORTED, UPDATE, UPDATE_VALUE_START,
+    ASSIGNMENT_FIXED, KIND_SIZE, Kind, MAX_NAME_LENGTH, REVISION_LENGTH, UPDATE_VALUE_START,
 };
 
-// ---- the checks: each answers the refusal, or how many bytes the field or the message has
+// The fields that a message is written from. Those that its kind lacks are not looked at; a name and a value are lent as for a
+// local call.
+// Stays: the kind and the type are the bytes that a caller gives, C's too. Which of them are known is for the checks to say.
+#[derive(Clone, Copy)]
+pub struct MessageFields<'a> {
+    pub kind: u8,
+    pub revision: u16,
+    pub name: &'a [u8],
+    pub type_code: u8,
+    pub id: u16,
+    pub number: u16,
+    pub value: &'a [u8],
+}
 
-// A name that is lent without a prefix.
-pub fn check_name(name: &[u8]) -> Parsed
+// A name that is lent without a prefix: the refusal, or how many bytes it has.
+#[tactic(auto, unfolding(crate::specs::Writer::check_name, field::specs::Choice::pick))]
+pub fn check_name(name: &[u8]) -> Result<usize, Fault>
     ensures { result ≡ check_name name.now }
 {
-    if (MAX_NAME_LENGTH as usize) < name.len() {
-        return Parsed::Refused(fault_at(TOO_LONG, 0));
+    if usize::from(MAX_NAME_LENGTH) < name.len() {
+        return Err(Fault::new(Refusal::TooLong, 0));
     }
-    if utf8::is_utf8(name) {
-        return Parsed::Taken(name.len());
+    if !utf8::is_utf8(name) {
+        return Err(Fault::new(Refusal::NotUtf8, 0));
     }
-    Parsed::Refused(fault_at(NOT_UTF8, 0))
+    Ok(name.len())
 }
 
-fn check_assignment(name: &[u8], type_code: u8, value: &[u8]) -> Parsed
-    ensures { (id number : ℕ) →
-        result ≡ needed_for (check_assignment id (lent_entry name.now type_code number value.now)) }
-{
-    let checked_name = check_name(name);
-    let Parsed::Taken(n) = checked_name else {
-        return checked_name;
-    };
-    let checked_value = value::read_lone(type_code, value);
-    let Parsed::Taken(v) = checked_value else {
-        return checked_value;
-    };
-    let size = ASSIGNMENT_FIXED + n + v;
-    Parsed::Taken(size)
-}
-
-fn check_update(type_code: u8, value: &[u8]) -> Parsed
-    ensures { (id number : ℕ) → result ≡ needed_for (check_update id number type_code value.now) }
-{
-    let checked_value = value::read_lone(type_code, value);
-    let Parsed::Taken(v) = checked_value else {
-        return checked_value;
-    };
-    let size = UPDATE_VALUE_START + v;
-    Parsed::Taken(size)
-}
-
-// The fields that a kind has.
-fn check_fields(kind: u8, name: &[u8], type_code: u8, value: &[u8]) -> Parsed
-    ensures { (revision id number : ℕ) →
-        result ≡ needed_for (check (lent_fields kind revision name.now type_code id number value.now)) }
-{
-    match kind {
-        KEEP_ALIVE => Parsed::Taken(KIND_SIZE),
-        HELLO => Parsed::Taken(REVISION_LENGTH),
-        UNSUPPORTED => Parsed::Taken(REVISION_LENGTH),
-        HELLO_COMPLETE => Parsed::Taken(KIND_SIZE),
-        ASSIGNMENT => check_assignment(name, type_code, value),
-        UPDATE => check_update(type_code, value),
-        _ => Parsed::Refused(fault_at(UNKNOWN_KIND, 0)),
+impl<'a> MessageFields<'a> {
+    // The fields that a kind has: the refusal, or how many bytes the message has.
+    #[tactic(auto, using(crate::proofs::WriterLaws::lone_taken_is, crate::proofs::WriterLaws::name_taken_lem, message::proofs::ReadBack::length_assignment, message::proofs::ReadBack::length_update), unfolding(crate::specs::Writer::check_by_kind, crate::specs::Writer::check_assignment, crate::specs::Writer::check_update, field::specs::Choice::pick, message::specs::Layout::layout, message::specs::Layout::revision_bytes, field::specs::Octets::encode16))]
+    fn check(self, kind: Kind) -> Result<usize, Fault>
+        ensures { result ≡ needed_for (check_by_kind (kind_byte kind) (given self.entry)) }
+    {
+        match kind {
+            Kind::KeepAlive | Kind::HelloComplete => Ok(KIND_SIZE),
+            Kind::Hello | Kind::Unsupported => Ok(REVISION_LENGTH),
+            Kind::Assignment => {
+                let name_size = check_name(self.name)?;
+                let value_size = value::read_lone(self.type_code, self.value)?;
+                Ok(ASSIGNMENT_FIXED + name_size + value_size)
+            }
+            Kind::Update => {
+                let value_size = value::read_lone(self.type_code, self.value)?;
+                Ok(UPDATE_VALUE_START + value_size)
+            }
+        }
     }
-}
 
-// ---- one message
+    // The message of fields that were checked, where the output has room for it: how many bytes it has.
+    #[tactic(auto, unfolding(crate::specs::Writer::check_by_kind, field::specs::Choice::pick, message::specs::Layout::layout, message::specs::Layout::revision_bytes, field::specs::Octets::encode16))]
+    fn put(self, kind: Kind, out: &mut [u8]) -> usize
+        requires { Ready (length out.old) (check_by_kind (kind_byte kind) (given self)) }
+        ensures sent { result ≡ length (bytes_of (check_by_kind (kind_byte kind) (given self.entry))) }
+        ensures output { out.new
+            ≡ overwrite_at out.old 0 (bytes_of (check_by_kind (kind_byte kind) (given self.entry))) }
+    {
+        match kind {
+            Kind::KeepAlive | Kind::HelloComplete => encoder::write_kind(out, kind),
+            Kind::Hello | Kind::Unsupported => encoder::write_revision(out, kind, self.revision),
+            Kind::Assignment => encoder::write_assignment(
+                out,
+                self.name,
+                self.type_code,
+                self.id,
+                self.number,
+                self.value,
+            ),
+            Kind::Update => encoder::write_update(out, self.id, self.number, self.value),
+        }
+    }
 
-// The message of fields that were checked, where the output has room for it.
-fn write_checked(
-    kind: u8,
-    revision: u16,
-    name: &[u8],
-    type_code: u8,
-    id: u16,
-    number: u16,
-    value: &[u8],
-    out: &mut [u8],
-) -> usize
-    requires { Ready (length out.old) (check (lent_fields kind revision name.now type_code id number value.now)) }
-    ensures sent { result ≡ length (bytes_of (check (lent_fields kind revision name.now type_code id number value.now))) }
-    ensures output { out.new
-        ≡ overwrite_at out.old 0
-        (bytes_of (check (lent_fields kind revision name.now type_code id number value.now))) }
-{
-    match kind {
-        KEEP_ALIVE => encoder::write_kind(out, KEEP_ALIVE),
-        HELLO => encoder::write_revision(out, HELLO, revision),
-        UNSUPPORTED => encoder::write_revision(out, UNSUPPORTED, revision),
-        HELLO_COMPLETE => encoder::write_kind(out, HELLO_COMPLETE),
-        ASSIGNMENT => encoder::write_assignment(out, name, type_code, id, number, value),
-        UPDATE => encoder::write_update(out, id, number, value),
-        _ => 0,
+    // A message of a kind.
+    #[tactic(auto, using(crate::proofs::WriterLaws::needs_refused))]
+    fn write(self, kind: Kind, out: &mut [u8]) -> Answer
+        ensures { written result out.new ≡ write_with_place (check_by_kind (kind_byte kind) (given self.entry)) out.old }
+    {
+        match self.check(kind) {
+            Ok(size) => {
+                if out.len() < size {
+                    return answer::no_room();
+                }
+                let sent = self.put(kind, out);
+                answer::done(0, 0, sent)
+            }
+            Err(fault) => answer::refused(fault),
+        }
     }
 }
 
-// One message from its fields. Those that the kind lacks are not looked at; a name and a value are lent as for a local call.
-pub fn write_message(
-    kind: u8,
-    revision: u16,
-    name: &[u8],
-    type_code: u8,
-    id: u16,
-    number: u16,
-    value: &[u8],
-    out: &mut [u8],
-) -> Answer
-    ensures { written result out.new
-        ≡ write_with_place (check (lent_fields kind revision name.now type_code id number value.now))
-        out.old }
+// One message from its fields.
+pub fn write_message(fields: MessageFields<'_>, out: &mut [u8]) -> Answer
+    ensures { written result out.new ≡ write_with_place (check (given fields.entry)) out.old }
 {
-    let needed = check_fields(kind, name, type_code, value);
-    let Parsed::Taken(size) = needed else {
-        return answer::refused(fault_of(needed));
-    };
-    if out.len() < size {
-        return answer::no_room();
+    match Kind::try_from(fields.kind) {
+        Ok(kind) => fields.write(kind, out),
+        Err(refusal) => answer::refused(Fault::new(refusal, 0)),
     }
-    let sent = write_checked(kind, revision, name, type_code, id, number, value, out);
-    answer::done(0, 0, sent)
 }
