@@ -1,17 +1,19 @@
 // The message writer of Protocol Revision 2.0: fields are checked, and their message is written.
 #![tactic(auto)]
 
-ghost use Rattle.std.specs.Prelude.{◌≡◌, length};
+ghost use Rattle.std.specs.Prelude.{◌≡◌, ◌≤◌, length};
 ghost use Rattle.field.specs.Octets.{overwrite_at};
 ghost use Rattle.message.specs.Kinds.{kind_byte};
-ghost use Rattle.writer.specs.Writer.{check_name, check_by_kind, check};
+ghost use Rattle.message.specs.Lent.{entry_lent};
+ghost use Rattle.writer.specs.Writer.{given_entry, check_name, check_by_kind, check};
 ghost use Rattle.writer.specs.Writer.{needed_for, bytes_of, Ready, write_with_place, written};
 ghost use Rattle.writer.specs.Given.{given};
 
 use answer::Answer;
 use field::{Fault, Refusal};
 use message::{
-    ASSIGNMENT_FIXED, KIND_SIZE, Kind, MAX_NAME_LENGTH, REVISION_LENGTH, UPDATE_VALUE_START,
+    ASSIGNMENT_FIXED, KIND_SIZE, Kind, LentEntry, MAX_NAME_LENGTH, REVISION_LENGTH,
+    UPDATE_VALUE_START,
 };
 
 // The fields that a message is written from. Those that its kind lacks are not looked at; a name and a value are lent as for a
@@ -43,6 +45,19 @@ pub fn check_name(name: &[u8]) -> Result<usize, Fault>
 }
 
 impl<'a> MessageFields<'a> {
+    // An assignment's entry.
+    fn lent_entry(self) -> LentEntry<'a>
+        ensures entry { entry_lent result ≡ given_entry (given self.entry) }
+        ensures type_fits { result.type_code ≤ 255 }
+    {
+        LentEntry {
+            name: self.name,
+            type_code: u16::from(self.type_code),
+            number: self.number,
+            value: self.value,
+        }
+    }
+
     // The fields that a kind has: the refusal, or how many bytes the message has.
     #[tactic(auto, using(crate::proofs::WriterLaws::lone_taken_is, crate::proofs::WriterLaws::name_taken_lem, message::proofs::ReadBack::length_assignment, message::proofs::ReadBack::length_update), unfolding(crate::specs::Writer::check_by_kind, crate::specs::Writer::check_assignment, crate::specs::Writer::check_update, field::specs::Choice::pick, message::specs::Layout::layout, message::specs::Layout::revision_bytes, field::specs::Octets::encode16))]
     fn check(self, kind: Kind) -> Result<usize, Fault>
@@ -74,14 +89,7 @@ impl<'a> MessageFields<'a> {
         match kind {
             Kind::KeepAlive | Kind::HelloComplete => encoder::write_kind(out, kind),
             Kind::Hello | Kind::Unsupported => encoder::write_revision(out, kind, self.revision),
-            Kind::Assignment => encoder::write_assignment(
-                out,
-                self.name,
-                self.type_code,
-                self.id,
-                self.number,
-                self.value,
-            ),
+            Kind::Assignment => encoder::write_assignment(out, self.id, self.lent_entry()),
             Kind::Update => encoder::write_update(out, self.id, self.number, self.value),
         }
     }
