@@ -13,3 +13,4 @@ pub mod CopyTaken
 pub mod CopyDone
 pub mod Refused
 pub mod Effect
+pub mod Memory

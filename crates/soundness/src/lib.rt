@@ -3,13 +3,17 @@
 
 ghost use Rattle.std.specs.Prelude.{◌≡◌, ◌+◌, ◌*◌, ◌<◌, ◌≤◌, length, ◌==◌, true, IsSome, IfSome, ◌↔◌};
 ghost use Rattle.field.specs.Choice.{pick};
+ghost use Rattle.value.specs.Value.{IsValue};
 ghost use Rattle.message.specs.Layout.{max_name_length};
+ghost use Rattle.message.specs.Lent.{entry_lent};
 ghost use Rattle.table.specs.Memory.{memory_of};
-ghost use Rattle.table.specs.Names.{name_held, names_differ};
-ghost use Rattle.table.specs.Table.{Holds, Named, entry_at, entry_of, lent, entries_of, max_entries};
+ghost use Rattle.table.specs.Names.{entry_named, name_held, names_differ};
+ghost use Rattle.table.specs.Table.{Holds, Named, entry_at, entry_of, lent, entries_of, parse_held_update, max_entries};
 ghost use Rattle.soundness.specs.Fingerprint.{fingerprints, several, weight_at, fingerprint_of, Covers};
 ghost use Rattle.soundness.specs.Sound.{all_below, sound_entry, sound_table, sound_marks};
 
+use field::Fault;
+use message::{LentEntry, Update};
 use table::Table;
 
 pub const CONNECTIONS: usize = 16;
@@ -50,6 +54,39 @@ impl<'a> SoundTable<'a> {
         } else {
             None
         }
+    }
+
+    // How many entries there are.
+    pub fn len(self) -> usize
+        ensures { result ≡ self.entry.table.count }
+    {
+        self.table.len()
+    }
+
+    // The ID of the entry whose name is equal.
+    #[tactic(auto, using(crate::proofs::ReadableLaws::sound_named))]
+    pub fn find_name(self, name: &[u8]) -> Option<usize>
+        ensures { result ≡ entry_named name.now (entries_of (memory_of self.entry.table)) }
+    {
+        self.table.find_name(name)
+    }
+
+    // An update of a held ID, read with its stored type.
+    #[tactic(auto, using(crate::proofs::ReadableLaws::sound_readable))]
+    pub fn read_held_update(self, m: &[u8]) -> Result<Update, Fault>
+        ensures { result ≡ parse_held_update (entries_of (memory_of self.entry.table)) m.now }
+    {
+        self.table.read_held_update(m)
+    }
+
+    // Entry i, which obeys the rules.
+    pub fn entry(self, i: usize) -> LentEntry<'a>
+        requires { i < self.table.count }
+        ensures entry { entry_lent result ≡ entry_of (memory_of self.entry.table) i }
+        ensures typed { result.type_code ≤ 255 }
+        ensures valued { IsValue result.type_code result.value.now }
+    {
+        self.table.entry(i)
     }
 }
 
