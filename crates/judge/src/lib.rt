@@ -1,24 +1,25 @@
 // What a call comes to: read only, the output is not looked at.
 #![tactic(auto)]
 
-ghost use Rattle.std.specs.Prelude.{◌≡◌, true, ℕ, ◌≤◌, ◌<◌, List, length};
+ghost use Rattle.std.specs.Prelude.{◌≡◌, ℕ, ◌≤◌, ◌<◌, List, length, eqb, Ok, Err};
+ghost use Rattle.message.specs.Kinds.{kind_byte};
 ghost use Rattle.message.specs.Layout.{Entry};
 ghost use Rattle.message.specs.Reader.{id_allowed, parse_assignment};
-ghost use Rattle.table.specs.Table.{lent, entries_of, parse_held_update, max_entries};
-ghost use Rattle.soundness.specs.Sound.{sound_table, connections};
-ghost use Rattle.protocol.specs.Judge.{open_connection, leave, client_message, local_create, local_write, new_id};
-ghost use Rattle.protocol.specs.Judge.{judge_hello, judge_assignment, judge_update, judge_message, judge};
-ghost use Rattle.judge.specs.Decision.{Decides, DecidesMark, DecidesCreate, DecidesWrite};
+ghost use Rattle.table.specs.Memory.{memory_of};
+ghost use Rattle.table.specs.Table.{entries_of, parse_held_update, max_entries};
+ghost use Rattle.field.specs.Answer.{wrong_state};
+ghost use Rattle.field.specs.Choice.{demand};
+ghost use Rattle.field.specs.Field.{fault_at};
+ghost use Rattle.soundness.specs.Sound.{connections, greeted};
+ghost use Rattle.protocol.specs.Judge.{client_message, local_create, local_write, new_id};
+ghost use Rattle.protocol.specs.Judge.{judge_hello, judge_assignment, judge_update, judge_kind, judge_message, judge};
+ghost use Rattle.judge.specs.Decision.{mark_call, mark_of, allows, Decides, DecidesMark, DecidesCreate, DecidesWrite};
 
-use field::{
-    CONNECTION_TOO_HIGH, Fault, INCOMPLETE, NAME_TAKEN, Number, Octet, Parsed, TABLE_FULL,
-    UNKNOWN_ID, UNKNOWN_KIND, WRONG_STATE, fault_at, fault_of,
-};
-use message::{
-    ASSIGNMENT_FIXED, ASSIGNMENT_NAME_START, AllowedId, AssignmentRead, KIND_SIZE,
-    UPDATE_VALUE_START, UpdateRead,
-};
+use field::{Fault, Refusal};
+use message::{AllowedId, Assignment, KIND_SIZE, Kind, Update};
+use reader::Reader;
 use sequence::SequenceNumber;
+use soundness::SoundTable;
 
 pub const REVISION: u16 = 0x0200;
 
@@ -27,267 +28,208 @@ pub const NEW_ID: u16 = 0xFFFF;
 
 // ---- a client's message
 
-// A verdict on a client's message. Names and values stay in the message, the connection with the caller. A type stands before lengths: no
-// other verdict has a length in its place, so that it is not read back with bytes that were stored apart.
-#[derive(Drop)]
+// A verdict on a client's message that is not refused. Names and values stay in the message, the connection with the caller.
+#[derive(Clone, Copy, PartialEq, Eq)]
 pub enum Decision {
-    Refuse(Fault),
     Ignore(usize),
     AcceptHello,
     UnsupportedRevision,
-    StoreNew {
-        type_code: u8,
-        name_length: usize,
-        value_length: usize,
-    },
-    StoreUpdate {
-        id: u16,
-        number: u16,
-        value_length: usize,
-    },
+    StoreNew(Assignment),
+    StoreUpdate(Update),
 }
 
-fn judge_hello(mark: u8, m: &[u8]) -> Decision
+fn judge_hello(mark: u8, m: &[u8]) -> Result<Decision, Fault>
     ensures { (count c : ℕ) → c < connections →
         Decides count c m.now result (judge_hello c mark m.now) }
 {
     if mark != soundness::OPEN {
-        return Decision::Refuse(fault_at(WRONG_STATE, 0));
+        return Err(Fault::new(Refusal::WrongState, 0));
     }
-    let Number::There(revision) = reader::number_at(m, KIND_SIZE) else {
-        return Decision::Refuse(fault_at(INCOMPLETE, KIND_SIZE));
-    };
+    let revision = Reader::new(m).at(KIND_SIZE).number()?;
     if revision == REVISION {
-        return Decision::AcceptHello;
+        return Ok(Decision::AcceptHello);
     }
-    Decision::UnsupportedRevision
+    Ok(Decision::UnsupportedRevision)
 }
 
-fn judge_assignment(heads: &[u16], bytes: &[u8], count: u16, m: &[u8]) -> Decision
-    requires { sound_table max_entries (lent heads.now bytes.now count) ≡ true }
-    ensures { (c : ℕ) → Decides count c m.now result
-        (judge_assignment max_entries (entries_of (lent heads.now bytes.now count)) m.now
+fn judge_assignment(table: SoundTable, m: &[u8]) -> Result<Decision, Fault>
+    ensures { (c : ℕ) → Decides table.entry.table.count c m.now result
+        (judge_assignment max_entries (entries_of (memory_of table.entry.table)) m.now
         (parse_assignment (id_allowed (AllowedId.Only new_id)) m.now)) }
 {
-    match message::read_assignment(m, AllowedId::Only(NEW_ID)) {
-        AssignmentRead::Refused(fault) => Decision::Refuse(fault),
-        AssignmentRead::Assignment {
-            name_length,
-            type_code,
-            id: _,
-            number: _,
-            value_length,
-        } => {
-            let name_end = ASSIGNMENT_NAME_START + name_length;
-            let n = count as usize;
-            if table::find_name(heads, bytes, n, &m[ASSIGNMENT_NAME_START..name_end]) < n {
-                let taken = ASSIGNMENT_FIXED + name_length + value_length;
-                return Decision::Ignore(taken);
-            }
-            if n >= table::MAX_ENTRIES {
-                return Decision::Refuse(fault_at(TABLE_FULL, 0));
-            }
-            Decision::StoreNew {
-                type_code: type_code,
-                name_length: name_length,
-                value_length: value_length,
-            }
-        }
+    let assignment = message::read_assignment(m, AllowedId::Only(NEW_ID))?;
+    if table.find_name(assignment.name(m)).is_some() {
+        return Ok(Decision::Ignore(assignment.size()));
     }
+    if table.len() >= table::MAX_ENTRIES {
+        return Err(Fault::new(Refusal::TableFull, 0));
+    }
+    Ok(Decision::StoreNew(assignment))
 }
 
-fn judge_update(heads: &[u16], bytes: &[u8], count: u16, m: &[u8]) -> Decision
-    requires { sound_table max_entries (lent heads.now bytes.now count) ≡ true }
-    ensures { (c : ℕ) → Decides count c m.now result
-        (judge_update c (entries_of (lent heads.now bytes.now count)) m.now
-        (parse_held_update (entries_of (lent heads.now bytes.now count)) m.now)) }
+fn judge_update(table: SoundTable, m: &[u8]) -> Result<Decision, Fault>
+    ensures { (c : ℕ) → Decides table.entry.table.count c m.now result
+        (judge_update c (entries_of (memory_of table.entry.table)) m.now
+        (parse_held_update (entries_of (memory_of table.entry.table)) m.now)) }
 {
-    match table::read_held_update(heads, bytes, count, m) {
-        UpdateRead::Refused(fault) => Decision::Refuse(fault),
-        UpdateRead::Update {
-            id,
-            number,
-            value_length,
-        } => {
-            let stored = table::number_of(heads, id as usize);
-            if !SequenceNumber(stored).is_passed_by(SequenceNumber(number)) {
-                let taken = UPDATE_VALUE_START + value_length;
-                return Decision::Ignore(taken);
-            }
-            Decision::StoreUpdate {
-                id: id,
-                number: number,
-                value_length: value_length,
-            }
+    let update = table.read_held_update(m)?;
+    let stored = SequenceNumber(table.entry(usize::from(update.id)).number);
+    if !stored.is_passed_by(SequenceNumber(update.number)) {
+        return Ok(Decision::Ignore(update.size()));
+    }
+    Ok(Decision::StoreUpdate(update))
+}
+
+// Assignments and updates are for connections that are greeted.
+#[tactic(auto, unfolding(field::specs::Choice::pick))]
+fn demand_greeted(mark: u8) -> Result<(), Fault>
+    ensures { result ≡ demand (eqb mark greeted) (Err (fault_at wrong_state 0)) (Ok tt) }
+{
+    if mark != soundness::GREETED {
+        return Err(Fault::new(Refusal::WrongState, 0));
+    }
+    Ok(())
+}
+
+// A message of a kind, of a connection that is open or greeted.
+fn judge_kind(table: SoundTable, mark: u8, kind: Kind, m: &[u8]) -> Result<Decision, Fault>
+    ensures { (c : ℕ) → c < connections → Decides table.entry.table.count c m.now result
+        (judge_kind max_entries (entries_of (memory_of table.entry.table)) c mark (kind_byte kind) m.now) }
+{
+    match kind {
+        Kind::KeepAlive => Ok(Decision::Ignore(KIND_SIZE)),
+        Kind::Hello => judge_hello(mark, m),
+        Kind::Assignment => {
+            demand_greeted(mark)?;
+            judge_assignment(table, m)
         }
+        Kind::Update => {
+            demand_greeted(mark)?;
+            judge_update(table, m)
+        }
+        Kind::Unsupported | Kind::HelloComplete => Err(Fault::new(Refusal::UnknownKind, 0)),
     }
 }
 
 // A message of a connection that is open or greeted.
-fn judge_message(heads: &[u16], bytes: &[u8], count: u16, mark: u8, m: &[u8]) -> Decision
-    requires { sound_table max_entries (lent heads.now bytes.now count) ≡ true }
-    ensures { (c : ℕ) → c < connections → Decides count c m.now result
-        (judge_message max_entries (entries_of (lent heads.now bytes.now count)) c mark m.now) }
+fn judge_message(table: SoundTable, mark: u8, m: &[u8]) -> Result<Decision, Fault>
+    ensures { (c : ℕ) → c < connections → Decides table.entry.table.count c m.now result
+        (judge_message max_entries (entries_of (memory_of table.entry.table)) c mark m.now) }
 {
-    let Octet::There(kind) = reader::octet_at(m, 0) else {
-        return Decision::Refuse(fault_at(INCOMPLETE, 0));
-    };
-    if kind == message::KEEP_ALIVE {
-        return Decision::Ignore(KIND_SIZE);
+    let byte = Reader::new(m).octet()?;
+    match Kind::try_from(byte) {
+        Ok(kind) => judge_kind(table, mark, kind, m),
+        Err(refusal) => Err(Fault::new(refusal, 0)),
     }
-    if kind == message::HELLO {
-        return judge_hello(mark, m);
-    }
-    if kind == message::ASSIGNMENT {
-        if mark != soundness::GREETED {
-            return Decision::Refuse(fault_at(WRONG_STATE, 0));
-        }
-        return judge_assignment(heads, bytes, count, m);
-    }
-    if kind == message::UPDATE {
-        if mark != soundness::GREETED {
-            return Decision::Refuse(fault_at(WRONG_STATE, 0));
-        }
-        return judge_update(heads, bytes, count, m);
-    }
-    Decision::Refuse(fault_at(UNKNOWN_KIND, 0))
 }
 
-// One message of a client, in a sound table.
+// One message of a client.
 pub fn judge_client_message(
-    heads: &[u16],
-    bytes: &[u8],
-    count: u16,
+    table: SoundTable,
     marks: &[u8],
     c: usize,
     m: &[u8],
-) -> Decision
-    requires sound { sound_table max_entries (lent heads.now bytes.now count) ≡ true }
-    requires marks { connections ≤ length marks.now }
-    ensures { Decides count c m.now result
-        (judge max_entries (entries_of (lent heads.now bytes.now count)) marks.now
-        (client_message c m.now)) }
+) -> Result<Decision, Fault>
+    requires { connections ≤ length marks.now }
+    ensures { Decides table.entry.table.count c m.now result
+        (judge max_entries (entries_of (memory_of table.entry.table)) marks.now (client_message c m.now)) }
 {
     if c >= soundness::CONNECTIONS {
-        return Decision::Refuse(fault_at(CONNECTION_TOO_HIGH, 0));
+        return Err(Fault::new(Refusal::ConnectionTooHigh, 0));
     }
     let mark = marks[c];
     if mark == soundness::CLOSED {
-        return Decision::Refuse(fault_at(WRONG_STATE, 0));
+        return Err(Fault::new(Refusal::WrongState, 0));
     }
-    judge_message(heads, bytes, count, mark, m)
+    judge_message(table, mark, m)
 }
 
 // ---- opening and leaving
 
-// A verdict on opening or leaving: the connection's mark.
-#[derive(Drop)]
-pub enum MarkDecision {
-    Refuse(Fault),
+// What a connection does to its mark.
+#[derive(Clone, Copy, PartialEq, Eq)]
+pub enum MarkChange {
     Open,
     Close,
 }
 
-// Opening connection c, with sound marks; leaving likewise. No entry is looked at.
-pub fn judge_open(marks: &[u8], c: usize) -> MarkDecision
-    requires { connections ≤ length marks.now }
-    ensures { (limit : ℕ) (es : List Entry) →
-        DecidesMark c result (judge limit es marks.now (open_connection c)) }
-{
-    if c >= soundness::CONNECTIONS {
-        return MarkDecision::Refuse(fault_at(CONNECTION_TOO_HIGH, 0));
+impl MarkChange {
+    // The mark that it leaves.
+    pub fn mark(self) -> u8
+        ensures { result ≡ mark_of self }
+    {
+        match self {
+            MarkChange::Open => soundness::OPEN,
+            MarkChange::Close => soundness::CLOSED,
+        }
     }
-    if marks[c] != soundness::CLOSED {
-        return MarkDecision::Refuse(fault_at(WRONG_STATE, 0));
+
+    // Whether a connection with this mark may make it.
+    fn is_allowed(self, mark: u8) -> bool
+        ensures { result ≡ allows self mark }
+    {
+        match self {
+            MarkChange::Open => mark == soundness::CLOSED,
+            MarkChange::Close => mark != soundness::CLOSED,
+        }
     }
-    MarkDecision::Open
 }
 
-pub fn judge_leave(marks: &[u8], c: usize) -> MarkDecision
+// Connection c opens or leaves, with sound marks. No entry is looked at.
+pub fn judge_mark(marks: &[u8], c: usize, change: MarkChange) -> Result<(), Fault>
     requires { connections ≤ length marks.now }
     ensures { (limit : ℕ) (es : List Entry) →
-        DecidesMark c result (judge limit es marks.now (leave c)) }
+        DecidesMark c change result (judge limit es marks.now (mark_call change c)) }
 {
     if c >= soundness::CONNECTIONS {
-        return MarkDecision::Refuse(fault_at(CONNECTION_TOO_HIGH, 0));
+        return Err(Fault::new(Refusal::ConnectionTooHigh, 0));
     }
-    if marks[c] == soundness::CLOSED {
-        return MarkDecision::Refuse(fault_at(WRONG_STATE, 0));
+    if !change.is_allowed(marks[c]) {
+        return Err(Fault::new(Refusal::WrongState, 0));
     }
-    MarkDecision::Close
+    Ok(())
 }
 
 // ---- local calls
 
-// A verdict on a local create.
-#[derive(Drop)]
-pub enum CreateDecision {
-    Refuse(Fault),
-    Store,
-}
-
-// Local create, in a sound table.
+// Local create.
 pub fn judge_create(
-    heads: &[u16],
-    bytes: &[u8],
-    count: u16,
+    table: SoundTable,
     name: &[u8],
     type_code: u8,
     value: &[u8],
-) -> CreateDecision
-    requires { sound_table max_entries (lent heads.now bytes.now count) ≡ true }
+) -> Result<(), Fault>
     ensures { (marks : List ℕ) →
-        DecidesCreate count name.now type_code value.now result
-        (judge max_entries (entries_of (lent heads.now bytes.now count)) marks
+        DecidesCreate table.entry.table.count name.now type_code value.now result
+        (judge max_entries (entries_of (memory_of table.entry.table)) marks
         (local_create name.now type_code value.now)) }
 {
-    let checked_name = writer::check_name(name);
-    let Parsed::Taken(_) = checked_name else {
-        return CreateDecision::Refuse(fault_of(checked_name));
-    };
-    let checked_value = value::read_lone(type_code, value);
-    let Parsed::Taken(_) = checked_value else {
-        return CreateDecision::Refuse(fault_of(checked_value));
-    };
-    let n = count as usize;
-    if table::find_name(heads, bytes, n, name) < n {
-        return CreateDecision::Refuse(fault_at(NAME_TAKEN, 0));
+    writer::check_name(name)?;
+    value::read_lone(type_code, value)?;
+    if table.find_name(name).is_some() {
+        return Err(Fault::new(Refusal::NameTaken, 0));
     }
-    if n >= table::MAX_ENTRIES {
-        return CreateDecision::Refuse(fault_at(TABLE_FULL, 0));
+    if table.len() >= table::MAX_ENTRIES {
+        return Err(Fault::new(Refusal::TableFull, 0));
     }
-    CreateDecision::Store
+    Ok(())
 }
 
-// A verdict on a local write: the number that is stored with the value.
-#[derive(Drop)]
-pub enum WriteDecision {
-    Refuse(Fault),
-    Ignore,
-    Store(u16),
-}
-
-// Local write, in a sound table.
-pub fn judge_write(heads: &[u16], bytes: &[u8], count: u16, id: u16, value: &[u8]) -> WriteDecision
-    requires { sound_table max_entries (lent heads.now bytes.now count) ≡ true }
+// Local write: the number that is stored with the value, or none where the entry has the value already.
+pub fn judge_write(table: SoundTable, id: u16, value: &[u8]) -> Result<Option<u16>, Fault>
     ensures { (marks : List ℕ) →
-        DecidesWrite count id value.now result
-        (judge max_entries (entries_of (lent heads.now bytes.now count)) marks
+        DecidesWrite table.entry.table.count id value.now result
+        (judge max_entries (entries_of (memory_of table.entry.table)) marks
         (local_write id value.now)) }
 {
-    if id >= count {
-        return WriteDecision::Refuse(fault_at(UNKNOWN_ID, 0));
+    if usize::from(id) >= table.len() {
+        return Err(Fault::new(Refusal::UnknownId, 0));
     }
-    let i = id as usize;
-    let type_code = table::type_of(heads, i);
-    let checked_value = value::read_lone(type_code as u8, value);
-    let Parsed::Taken(_) = checked_value else {
-        return WriteDecision::Refuse(fault_of(checked_value));
-    };
-    if scalar::same_value(table::value_of(heads, bytes, i), value) {
-        return WriteDecision::Ignore;
+    let stored = table.entry(usize::from(id));
+    value::read_lone(stored.type_code as u8, value)?;
+    if scalar::same_value(stored.value, value) {
+        return Ok(None);
     }
-    let stored = table::number_of(heads, i);
-    let number = SequenceNumber(stored).next();
-    WriteDecision::Store(number.0)
+    let number = SequenceNumber(stored.number).next();
+    Ok(Some(number.0))
 }

@@ -1,6 +1,5 @@
 -- `judge_client_message` decides as the definition does: connection number, closed, and then the message.
-use native.Mathlib.Omega.{arith}
-use lib.ListN.{get_or}
+use Rattle.std.proofs.Common.{get_or, arith}
 use borrow.Author.Tests.{lt-ltb, le-ltb, eq-eqb, ne_eqb}
 use Rattle.field.specs.Choice.{pick}
 use Rattle.soundness.specs.Sound.{closed}
@@ -10,12 +9,12 @@ use Rattle.judge.proofs.judge_client_message.Goals as goal
 
 pub returns-then-c-ge-CONNECTIONS : goal.returns-then-c-ge-CONNECTIONS
 unfolding judge pick
-returns-then-c-ge-CONNECTIONS c = rw (c.fault_at.ensures, le-ltb _ _ c.if-c-ge-CONNECTIONS.true) (decides_refusal _ _ _ _)
+returns-then-c-ge-CONNECTIONS c = rw (c.new.ensures, le-ltb _ _ c.if-c-ge-CONNECTIONS.true) (decides_refusal _ _ _ _)
 
 pub returns-then-mark-eq-CLOSED : goal.returns-then-mark-eq-CLOSED
 unfolding judge pick
 returns-then-mark-eq-CLOSED c =
-    rw (c.fault_at-then-mark-eq-CLOSED.ensures, lt-ltb _ _ c.if-c-ge-CONNECTIONS.false, eq-eqb (get_or c.args.marks.now c.args.c 0) closed (omega arith)) (decides_refusal _ _ _ _)
+    rw (c.new-then-mark-eq-CLOSED.ensures, lt-ltb _ _ c.if-c-ge-CONNECTIONS.false, eq-eqb (get_or c.args.marks.now c.args.c 0) closed (omega arith)) (decides_refusal _ _ _ _)
 
 pub returns : goal.returns
 unfolding judge pick

@@ -1,54 +1,42 @@
--- `judge_update` decides as the definition does of what was read: the comparison is with the stored number.
-use mathlib.Core.Path.{◌≡◌, refl, sym, ap, ◌∙◌}
-use Prim.Native.Nat.{◌≤◌, ◌<◌}
-use native.Mathlib.Omega.{arith}
-use lib.ListN.{length, get_or}
-use Rattle.field.specs.Choice.{pick}
-use Rattle.value.specs.Value.{max_value_size}
-use Rattle.message.specs.Layout.{Entry}
-use Rattle.message.specs.Reader.{update_length}
+-- `judge_update` decides as the definition does of what was read, by the number of the held entry.
+use Rattle.std.proofs.Common.{◌≡◌, true, false, Err, rules, arith, ap, sym}
 use Rattle.sequence.specs.SequenceNumber.{passed_by}
-use Rattle.table.specs.Table.{table_memory, default_entry, entry_at, entries_of, max_entries}
-use Rattle.table.proofs.TabulateLaws.{entry_get}
-use Rattle.table.proofs.UpdateLaws.{held_update_fits}
-use Rattle.soundness.proofs.ReadableLaws.{sound_holds, sound_count, sound_readable}
-use Rattle.protocol.specs.Judge.{judge_update}
-use Rattle.judge.proofs.DecisionLaws.{decides_refusal, decides_ignored}
+use Rattle.message.specs.Layout.{Entry}
+use Rattle.table.specs.Table.{table_memory, entry_at}
+use Rattle.judge.proofs.DecisionLaws.{update_within, update_refused, update_ignored, update_stored}
 use Rattle.judge.proofs.judge_update.Goals as goal
 
-pub read_held_update-requires : goal.read_held_update-requires
-read_held_update-requires c =
-    sound_readable max_entries ((table_memory c.args.heads.now c.args.bytes.now c.args.count)) c.requires
+pub returns-in_err-update : goal.returns-in_err-update
+returns-in_err-update c =
+    let t = c.args.table.table in
+    let fault = c.in_err-update.field-0.0 in
+    let e : c.from_residual.result ≡ Err fault = search rules in
+    λ sender. rw e (update_refused (table_memory t.heads.now t.bytes.now t.count) sender c.args.m.now fault c.in_err-update.ensures)
 
-pub number_of-stored-requires : goal.number_of-stored-requires
-number_of-stored-requires c =
-    let fits : (c.in-Update.id < c.args.count) × (update_length (c.in-Update.value_length) ≤ length c.args.m.now) × (c.in-Update.value_length ≤ max_value_size) = held_update_fits ((table_memory c.args.heads.now c.args.bytes.now c.args.count)) c.args.m.now c.in-Update.id c.in-Update.number c.in-Update.value_length (sym c.read_held_update.ensures ∙ c.in-Update.is) in
-    omega (arith, (fits).0, (sound_holds max_entries ((table_memory c.args.heads.now c.args.bytes.now c.args.count)) c.requires).heads_hold, sound_count max_entries ((table_memory c.args.heads.now c.args.bytes.now c.args.count)) c.requires)
+pub entry-requires : goal.entry-requires
+entry-requires c =
+    let t = c.args.table.table in
+    let fits = update_within (table_memory t.heads.now t.bytes.now t.count) 0 c.args.m.now c.in_ok-update.update c.in_ok-update.ensures in
+    omega (arith, c.from.ensures, fits.0)
 
-pub overflow_add-taken : goal.overflow_add-taken
-overflow_add-taken c =
-    let fits : (c.in-Update.id < c.args.count) × (update_length (c.in-Update.value_length) ≤ length c.args.m.now) × (c.in-Update.value_length ≤ max_value_size) = held_update_fits ((table_memory c.args.heads.now c.args.bytes.now c.args.count)) c.args.m.now c.in-Update.id c.in-Update.number c.in-Update.value_length (sym c.read_held_update.ensures ∙ c.in-Update.is) in
-    omega (arith, (fits).2)
+pub size-requires : goal.size-requires
+size-requires c =
+    let t = c.args.table.table in
+    let fits = update_within (table_memory t.heads.now t.bytes.now t.count) 0 c.args.m.now c.in_ok-update.update c.in_ok-update.ensures in
+    omega (arith, fits.2)
 
 pub returns-then-not-is_passed_by : goal.returns-then-not-is_passed_by
-unfolding entry_at judge_update pick
 returns-then-not-is_passed_by c =
-    let fits : (c.in-Update.id < c.args.count) × (update_length (c.in-Update.value_length) ≤ length c.args.m.now) × (c.in-Update.value_length ≤ max_value_size) = held_update_fits ((table_memory c.args.heads.now c.args.bytes.now c.args.count)) c.args.m.now c.in-Update.id c.in-Update.number c.in-Update.value_length (sym c.read_held_update.ensures ∙ c.in-Update.is) in
-    let compared : c.is_passed_by.result ≡ passed_by ((get_or (entries_of ((table_memory c.args.heads.now c.args.bytes.now c.args.count))) (c.in-Update.id) default_entry)).number c.in-Update.number = let number_is = sym (ap (λ (e : Entry). e.number) (entry_get ((table_memory c.args.heads.now c.args.bytes.now c.args.count)) (c.in-Update.id) default_entry (fits).0)) in rw (← (c.number_of-stored.ensures c.args.bytes.now ∙ number_is)) c.is_passed_by.ensures in
-    λ sender.
-    rw (← c.read_held_update.ensures, c.in-Update.is, ← (compared), c.if-not-is_passed_by.true) (decides_ignored _ _ _ _)
+    let t = c.args.table.table in
+    let read = c.in_ok-update.update in
+    let number = ap (λ (e : Entry). e.number) (rw c.from.ensures at c.entry.ensures.entry) in
+    let late : passed_by (entry_at t.heads.now t.bytes.now read.id).number read.number ≡ false = rw number at (sym c.if-not-is_passed_by.ensures) in
+    λ sender. rw c.size.ensures (update_ignored (table_memory t.heads.now t.bytes.now t.count) sender c.args.m.now read c.in_ok-update.ensures late)
 
-pub returns-in-Refused : goal.returns-in-Refused
-unfolding judge_update pick
-returns-in-Refused c =
-    λ sender.
-    rw (← c.read_held_update.ensures, c.in-Refused.is) (decides_refusal _ _ _ _)
-
-pub returns-else-not-is_passed_by : goal.returns-else-not-is_passed_by
-unfolding entry_at judge_update pick
-returns-else-not-is_passed_by c =
-    let fits : (c.in-Update.id < c.args.count) × (update_length (c.in-Update.value_length) ≤ length c.args.m.now) × (c.in-Update.value_length ≤ max_value_size) = held_update_fits ((table_memory c.args.heads.now c.args.bytes.now c.args.count)) c.args.m.now c.in-Update.id c.in-Update.number c.in-Update.value_length (sym c.read_held_update.ensures ∙ c.in-Update.is) in
-    let compared : c.is_passed_by.result ≡ passed_by ((get_or (entries_of ((table_memory c.args.heads.now c.args.bytes.now c.args.count))) (c.in-Update.id) default_entry)).number c.in-Update.number = let number_is = sym (ap (λ (e : Entry). e.number) (entry_get ((table_memory c.args.heads.now c.args.bytes.now c.args.count)) (c.in-Update.id) default_entry (fits).0)) in rw (← (c.number_of-stored.ensures c.args.bytes.now ∙ number_is)) c.is_passed_by.ensures in
-    λ sender.
-    rw (← c.read_held_update.ensures, c.in-Update.is, ← (compared), c.if-not-is_passed_by.false)
-    (record { verdict = refl; performable = fits })
+pub returns : goal.returns
+returns c =
+    let t = c.args.table.table in
+    let read = c.in_ok-update.update in
+    let number = ap (λ (e : Entry). e.number) (rw c.from.ensures at c.entry.ensures.entry) in
+    let passes : passed_by (entry_at t.heads.now t.bytes.now read.id).number read.number ≡ true = rw number at (sym c.if-not-is_passed_by.ensures) in
+    λ sender. update_stored (table_memory t.heads.now t.bytes.now t.count) sender c.args.m.now read c.in_ok-update.ensures passes
