@@ -47,6 +47,9 @@ with_text_next w s t i = record { bytes = overwrite_next w.bytes w.end _ s t ref
     ended : min (min (w.end + length s) (length w.bytes) + length t) (length (overwrite_at w.bytes w.end s)) ≡ min (w.end + length (s ++ t)) (length w.bytes)
     ended = simp (length_overwrite, length-append) (omega arith)
 
+pub puts_next : {a b c : Text} {s t : List ℕ} → Puts a b s → Puts b c t → Puts a c (s ++ t)
+puts_next {s = s} {t = t} p q = record { same = q.same ∙ p.same; put = q.put ∙ ap (λ (w : Written). with_text w t) p.put ∙ with_text_next _ s t }
+
 -- one more byte of a run
 pub with_text_more : (w : Written) (s : List ℕ) (i : ℕ) → i < length s → with_text (with_text w (take i s)) (get_or s i 0 ∷ []) ≡ with_text w (take (i + 1) s)
 with_text_more w s i h = rw (with_text_next, add-one, take-suc s i 0 h)
@@ -86,10 +89,6 @@ leads_next {part} {rest} l p =
       within = puts_within p;
       leads = ap (λ (w : Written). with_text w rest) p.put ∙ with_text_next _ part rest ∙ l.leads;
     }
-
--- nothing is left
-pub leads_end : {a b : Text} {whole : List ℕ} → Leads a b whole [] → Puts a b whole
-leads_end l = record { same = l.same; put = sym (with_text_end _ l.within) ∙ l.leads }
 
 -- text ends within the buffer
 pub put_within : {buffer text now : List ℕ} {at end : ℕ} → Put buffer at text now end → end ≤ length now
