@@ -2,23 +2,20 @@
 use mathlib.Core.Path.{◌≡◌, refl, sym, ap, ◌∙◌}
 use mathlib.Core.List.{List, [], ◌∷◌, ◌++◌}
 use mathlib.Core.Bool.{Bool, true, false}
-use Prim.Native.Nat.{ℕ, zero, suc, ◌+◌, ◌≤◌, ◌<◌, min}
+use Prim.Native.Nat.{ℕ, ◌+◌, ◌≤◌, ◌<◌, min}
 use native.Mathlib.Omega.{arith}
 use lib.Dec.{leb}
 use borrow.Author.Tests.{leb-true, leb-false}
 use native.Mathlib.Numerals.{add-one}
-use lib.ListN.{length, take, set, get_or, length-append}
+use lib.ListN.{length, take, get_or, length-append}
 use lib.Seq.{take-suc}
+use Rattle.std.proofs.lemmas.List.{set_past}
 use Rattle.field.specs.Octets.{overwrite_at}
 use Rattle.field.proofs.OverwriteLaws.{length_overwrite, overwrite_append}
-use Rattle.digits.specs.Put.{Put, Written, with_text}
+use Rattle.digits.specs.Put.{Put, Puts, Written, written, with_text}
+use Rattle.digits.specs.declared.Text.{Text}
 
--- a store behind the end changes nothing
-set_past : (xs : List ℕ) (at y : ℕ) → length xs ≤ at → set xs at y ≡ xs
-set_past [] at y h = refl
-set_past (x ∷ xs) zero y h = absurd (omega arith)
-set_past (x ∷ xs) (suc at) y h = ap (λ (l : List ℕ). x ∷ l) (set_past xs at y (omega arith))
-
+-- stores behind the end change nothing
 pub overwrite_past : (xs : List ℕ) (at : ℕ) (ys : List ℕ) → length xs ≤ at → overwrite_at xs at ys ≡ xs
 unfolding overwrite_at
 overwrite_past xs at [] h = refl
@@ -50,6 +47,9 @@ with_text_next w s t i = record { bytes = overwrite_next w.bytes w.end _ s t ref
     ended : min (min (w.end + length s) (length w.bytes) + length t) (length (overwrite_at w.bytes w.end s)) ≡ min (w.end + length (s ++ t)) (length w.bytes)
     ended = simp (length_overwrite, length-append) (omega arith)
 
+pub puts_next : {a b c : Text} {s t : List ℕ} → Puts a b s → Puts b c t → Puts a c (s ++ t)
+puts_next {s = s} {t = t} p q = record { same = q.same ∙ p.same; put = q.put ∙ ap (λ (w : Written). with_text w t) p.put ∙ with_text_next _ s t }
+
 -- one more byte of a run
 pub with_text_more : (w : Written) (s : List ℕ) (i : ℕ) → i < length s → with_text (with_text w (take i s)) (get_or s i 0 ∷ []) ≡ with_text w (take (i + 1) s)
 with_text_more w s i h = rw (with_text_next, add-one, take-suc s i 0 h)
@@ -61,6 +61,34 @@ with_text_none w e h i = record { bytes = w.bytes; end = ended i }
   where
     ended : e ≡ min (w.end + 0) (length w.bytes)
     ended = omega arith
+
+-- the text ends within the buffer
+pub puts_within : {a b : Text} {s : List ℕ} → Puts a b s → b.end ≤ length b.bytes.now
+unfolding with_text
+puts_within {a} {s = s} p = omega (arith, ap (λ (w : Written). w.end) p.put, ap (λ (w : Written). length w.bytes) p.put, length_overwrite a.bytes.now a.end s)
+
+pub with_text_end : (w : Written) → w.end ≤ length w.bytes → with_text w [] ≡ w
+with_text_end w h = sym (with_text_none w w.end (omega arith))
+
+-- what a function takes that makes such calls in a row
+pub ruleset putting = (with_text_next, with_text_end, puts_within)
+
+-- ---- text whose last part is still to be put
+
+-- the rest behind the text so far, which ends within the buffer, makes the whole behind the text of old
+pub record Leads (old now : Text) (whole rest : List ℕ) : Type 0 where
+  pub same : now.bytes.ghost_name ≡ old.bytes.ghost_name
+  pub within : now.end ≤ length now.bytes.now
+  pub leads : with_text (written now) rest ≡ with_text (written old) whole
+
+-- one part more
+pub leads_next : {a b c : Text} {whole part rest : List ℕ} → Leads a b whole (part ++ rest) → Puts b c part → Leads a c whole rest
+leads_next {part} {rest} l p =
+    record {
+      same = p.same ∙ l.same;
+      within = puts_within p;
+      leads = ap (λ (w : Written). with_text w rest) p.put ∙ with_text_next _ part rest ∙ l.leads;
+    }
 
 -- text ends within the buffer
 pub put_within : {buffer text now : List ℕ} {at end : ℕ} → Put buffer at text now end → end ≤ length now

@@ -16,6 +16,7 @@ pub record Written : Type 0 where
 abbrev pub written : Text → Written
 written t = record { bytes = t.bytes.now; end = t.end }
 
+-- the same with text behind it, as far as there is room: what `Put` says, as a function
 unfoldable pub with_text : Written → List ℕ → Written
 with_text w text = record { bytes = overwrite_at w.bytes w.end text; end = min (w.end + length text) (length w.bytes) }
 

@@ -1,15 +1,18 @@
 // A Double as text in a lent buffer.
 #![tactic(auto)]
 
-ghost use Rattle.std.specs.Prelude.{◌≡◌, ◌++◌, ◌^◌, ◌≤◌, ◌<◌, max, get_or};
+ghost use Rattle.std.specs.Prelude.{◌≡◌, ◌++◌, ◌+◌, ◌*◌, ◌/◌, ◌%◌, ◌^◌, ◌≤◌, ◌<◌, if◌then◌else◌, max, get_or, length};
 ghost use Rattle.field.specs.Octets.{decode16};
 ghost use Rattle.digits.specs.Digits.{decimal_text};
-ghost use Rattle.digits.specs.Put.{Put};
-ghost use Rattle.double_text.specs.Double.{fraction_of, fraction_bits, most_places, binary_digits, decimal_over};
-ghost use Rattle.double_text.specs.Double.{significand, finite_text, special_text, sign_text, double_text};
+ghost use Rattle.digits.specs.Put.{Puts};
+ghost use Rattle.double_text.specs.Double.{sign_of, exponent_of, fraction_of, fraction_bits, most_places, binary_digits};
+ghost use Rattle.double_text.specs.Double.{decimal_over, significand, finite_text, special_text, sign_text, double_text};
 
-// 2 to the power of the fraction's bits.
-const FRACTIONS: usize = 4503599627370496;
+use digits::Text;
+use std::array;
+
+// How many fractions there are: 2 to the power of their bits.
+const FRACTIONS: usize = 1 << 52;
 
 // The exponent of an infinity, and of every NaN.
 const SPECIAL_EXPONENT: usize = 2047;
@@ -26,157 +29,144 @@ const LOWEST_DECIMAL: usize = WHOLE_EXPONENT - MOST_PLACES;
 // ---- bytes of a value, of which any may be missing
 
 // The byte at a place, or 0 behind the end.
-pub fn byte_at(s: &[u8], i: usize) -> usize
-    ensures { (result ≡ get_or s.now i 0) × (result ≤ 255) }
+pub fn byte_at(s: &[u8], i: usize) -> u8
+    ensures { result ≡ get_or s.now i 0 }
 {
-    if s.len() <= i {
-        return 0;
-    }
-    s[i] as usize
+    s.get(i).copied().unwrap_or(0)
 }
 
 // The number of the first two bytes.
-pub fn number_of(s: &[u8]) -> usize
-    ensures { (result ≡ decode16 s.now) × (result ≤ 65535) }
+#[tactic(auto, unfolding(field::specs::Octets::decode16))]
+pub fn number_of(s: &[u8]) -> u16
+    ensures { result ≡ decode16 s.now }
 {
-    let high = byte_at(s, 0);
-    let low = byte_at(s, 1);
-    high * 256 + low
+    u16::from_be_bytes([byte_at(s, 0), byte_at(s, 1)])
+}
+
+// The 64 bits of the first eight bytes.
+#[tactic(auto, using(crate::proofs::DoubleLaws::fraction_bytes), unfolding(field::specs::Octets::decode16))]
+fn bits_of(s: &[u8]) -> u64
+    ensures sign { result / 2 ^ 63 ≡ sign_of s.now }
+    ensures exponent { result / 2 ^ 52 % 2048 ≡ exponent_of s.now }
+    ensures fraction { result % 2 ^ 52 ≡ fraction_of s.now }
+{
+    u64::from_be_bytes(array::from_fn(|i| byte_at(s, i)))
 }
 
 // ---- digits
-// Each of these puts text at a place as far as there is room, and returns where it ends.
 
+#[tactic(auto, using(crate::proofs::DoubleLaws::power_most))]
 fn power_of_two(k: usize) -> usize
     requires { k ≤ most_places }
     ensures { result ≡ 2 ^ k }
 {
-    let mut power = 1;
-    let mut i = 0;
-    while i < k {
-        power = power * 2;
-        i += 1;
-    }
-    power
+    1 << k
 }
 
 // The digits of r / 2 ^ k, behind the point.
-fn put_binary(text: &mut [u8], at: usize, k: usize, r: usize) -> usize
-    requires { (k ≤ most_places) × (r < 2 ^ k) }
-    ensures { Put text.old at (binary_digits k r) text.new result }
+#[tactic(auto, using(crate::proofs::DoubleLaws::binary, digits::proofs::PutLaws::putting))]
+fn put_binary(text: &mut Text, k: usize, r: usize)
+    requires few { k ≤ most_places }
+    requires below { r < 2 ^ k }
+    requires within { text.old.end ≤ length text.old.bytes.now }
+    ensures { Puts text.old text.new (binary_digits k r) }
 {
-    let mut end = digits::put_nothing(text, at);
-    let mut unit = power_of_two(k);
+    let mut places = k;
     let mut left = r;
     while left != 0 {
-        unit = unit / 2;
+        places -= 1;
+        let unit = power_of_two(places);
         let digit = left * 5 / unit;
-        end = digits::put(text, end, 48 + digit as u8);
+        text.byte(b'0' + digit as u8);
         left = left * 5 % unit;
     }
-    end
 }
 
 // m / 2 ^ k in decimal, with all its digits.
-fn put_decimal_over(text: &mut [u8], at: usize, m: usize, k: usize) -> usize
+#[tactic(auto, using(digits::proofs::PutLaws::putting), unfolding(crate::specs::Double::decimal_over, field::specs::Choice::pick))]
+fn put_decimal_over(text: &mut Text, m: usize, k: usize)
     requires { k ≤ most_places }
-    ensures { Put text.old at (decimal_over m k) text.new result }
+    ensures { Puts text.old text.new (decimal_over m k) }
 {
     let unit = power_of_two(k);
     let left = m % unit;
-    let e1 = digits::put_decimal(text, at, m / unit);
-    let e2 = digits::put(text, e1, b'.');
+    text.decimal(m / unit);
+    text.byte(b'.');
     if left == 0 {
-        return digits::put(text, e2, b'0');
+        text.byte(b'0');
+    } else {
+        put_binary(text, k, left);
     }
-    put_binary(text, e2, k, left)
 }
 
 // m by a power of 2.
-fn put_scaled(text: &mut [u8], at: usize, m: usize, by: &[u8], x: usize) -> usize
-    ensures { Put text.old at (decimal_text m ++ by.now ++ decimal_text x) text.new result }
+#[tactic(auto, using(digits::proofs::PutLaws::putting))]
+fn put_scaled(text: &mut Text, m: usize, by: &[u8], x: usize)
+    ensures { Puts text.old text.new (decimal_text m ++ by.now ++ decimal_text x) }
 {
-    let e1 = digits::put_decimal(text, at, m);
-    let e2 = digits::put_bytes(text, e1, by);
-    digits::put_decimal(text, e2, x)
+    text.decimal(m);
+    text.bytes(by);
+    text.decimal(x);
 }
 
-fn at_least_one(e: usize) -> usize
-    ensures { result ≡ max e 1 }
-{
-    if e == 0 {
-        return 1;
-    }
-    e
-}
-
-fn put_finite(text: &mut [u8], at: usize, e: usize, m: usize) -> usize
-    ensures { Put text.old at (finite_text e m) text.new result }
+#[tactic(auto, unfolding(crate::specs::Double::finite_text, field::specs::Choice::pick))]
+fn put_finite(text: &mut Text, e: usize, m: usize)
+    ensures { Puts text.old text.new (finite_text e m) }
 {
     if m == 0 {
-        return digits::put_bytes(text, at, b"0.0");
+        return text.bytes(b"0.0");
     }
     if e < LOWEST_DECIMAL {
-        return put_scaled(text, at, m, b"*2^-", WHOLE_EXPONENT - at_least_one(e));
+        return put_scaled(text, m, b"*2^-", WHOLE_EXPONENT - e.max(1));
     }
     if e <= WHOLE_EXPONENT {
-        return put_decimal_over(text, at, m, WHOLE_EXPONENT - e);
+        return put_decimal_over(text, m, WHOLE_EXPONENT - e);
     }
-    put_scaled(text, at, m, b"*2^", e - WHOLE_EXPONENT)
+    put_scaled(text, m, b"*2^", e - WHOLE_EXPONENT);
 }
 
-fn put_special(text: &mut [u8], at: usize, fraction: usize) -> usize
-    ensures { Put text.old at (special_text fraction) text.new result }
+#[tactic(auto, unfolding(crate::specs::Double::special_text, field::specs::Choice::pick))]
+fn special_text(fraction: usize) -> &'static [u8]
+    ensures { result.now ≡ special_text fraction }
 {
-    if fraction == 0 {
-        return digits::put_bytes(text, at, b"inf");
-    }
-    digits::put_bytes(text, at, b"NaN")
+    if fraction == 0 { b"inf" } else { b"NaN" }
 }
 
-fn put_sign(text: &mut [u8], at: usize, sign: usize, e: usize, fraction: usize) -> usize
-    ensures { Put text.old at (sign_text sign e fraction) text.new result }
+#[tactic(auto, unfolding(crate::specs::Double::sign_text, field::specs::Choice::pick))]
+fn sign_text(negative: bool, e: usize, fraction: usize) -> &'static [u8]
+    ensures { result.now ≡ sign_text (if negative then 1 else 0) e fraction }
 {
-    if sign == 0 {
-        return digits::put_nothing(text, at);
+    if !negative || (e == SPECIAL_EXPONENT && fraction > 0) {
+        b""
+    } else {
+        b"-"
     }
-    if e != SPECIAL_EXPONENT {
-        return digits::put(text, at, b'-');
-    }
-    if fraction == 0 {
-        return digits::put(text, at, b'-');
-    }
-    digits::put_nothing(text, at)
 }
 
-fn fraction_of(s: &[u8]) -> usize
-    ensures { (result ≡ fraction_of s.now) × (result < 2 ^ fraction_bits) }
-{
-    let first = byte_at(s, 1) % 16;
-    let second = first * 65536 + number_of(reader::rest(s, 2));
-    let third = second * 65536 + number_of(reader::rest(s, 4));
-    third * 65536 + number_of(reader::rest(s, 6))
-}
-
+#[tactic(auto, unfolding(crate::specs::Double::significand, field::specs::Choice::pick))]
 fn significand_of(e: usize, fraction: usize) -> usize
     requires { fraction < 2 ^ fraction_bits }
     ensures { result ≡ significand e fraction }
 {
     if e == 0 {
-        return fraction;
+        fraction
+    } else {
+        FRACTIONS + fraction
     }
-    FRACTIONS + fraction
 }
 
-pub fn put_double(text: &mut [u8], at: usize, s: &[u8]) -> usize
-    ensures { Put text.old at (double_text s.now) text.new result }
+#[tactic(auto, using(digits::proofs::PutLaws::putting), unfolding(crate::specs::Double::double_text, field::specs::Choice::pick))]
+pub fn put_double(text: &mut Text, s: &[u8])
+    ensures { Puts text.old text.new (double_text s.now) }
 {
-    let sign = byte_at(s, 0) / 128;
-    let e = number_of(s) / 16 % 2048;
-    let fraction = fraction_of(s);
-    let end = put_sign(text, at, sign, e, fraction);
+    let bits = bits_of(s) as usize;
+    let negative = bits >> 63 == 1;
+    let e = (bits >> 52) % 2048;
+    let fraction = bits % FRACTIONS;
+    text.bytes(sign_text(negative, e, fraction));
     if e == SPECIAL_EXPONENT {
-        return put_special(text, end, fraction);
+        text.bytes(special_text(fraction));
+    } else {
+        put_finite(text, e, significand_of(e, fraction));
     }
-    put_finite(text, end, e, significand_of(e, fraction))
 }

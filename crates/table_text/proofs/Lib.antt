@@ -1,3 +1,3 @@
 pub mod TextLaws
-pub mod ValueLaws
+pub mod TypeLaws
 pub mod LineLaws
