@@ -1,19 +1,23 @@
 -- Laws of what saving stores.
 use mathlib.Core.Path.{◌≡◌, refl, sym, ap, ◌∙◌}
 use mathlib.Core.Bool.{true, false}
-use mathlib.Core.List.{List, [], ◌∷◌, ◌++◌, append_assoc}
+use mathlib.Core.List.{List, [], ◌++◌, append_assoc, append-nil}
 use Prim.Native.Nat.{ℕ, ◌+◌, ◌-◌, ◌≤◌, ◌<◌}
 use native.Mathlib.Omega.{arith}
 use lib.ListN.{length, take, drop, set, replicate, length-append, length-drop, length-replicate, replicate-append-replicate}
-use lib.Seq.{take_at, drop_at, drop-drop, drop-append-le, length-take-le}
+use Rattle.std.proofs.lemmas.List.{drop-set-lt}
+use Rattle.std.proofs.lemmas.List.Edits.{fill_more}
+use lib.Seq.{drop-length, take_at, drop_at, drop-drop, drop-append-le, length-take-le}
 use borrow.Author.Tests.{le-leb, lt-leb}
 use Rattle.field.specs.Choice.{pick}
 use Rattle.field.specs.Octets.{overwrite_at}
-use Rattle.field.proofs.OverwriteLaws.{length_overwrite, overwrite_eq, overwrite_append}
+use Rattle.field.proofs.OverwriteLaws.{length_overwrite, overwrite_eq, overwrite_append, overwrite_mid}
 use Rattle.field.specs.Answer.{output_too_short, unsound}
 use Rattle.answer.specs.Answers.{bare_answer, done_answer}
-use Rattle.message.specs.Layout.{Entry}
-use Rattle.table.specs.Table.{TableMemory, Readable, entry_at, tabulate, entries_of}
+use Rattle.message.specs.Layout.{Entry, max_name_length}
+use Rattle.table.specs.Table.{TableMemory, HasName, HasValue, entry_at, entry_of, tabulate, entries_of, max_entries}
+use Rattle.soundness.proofs.ReadableLaws.{sound_readable}
+use Rattle.value.specs.Value.{max_value_size}
 use Rattle.table.proofs.SearchLaws.{name_length_lem, value_length_lem, has_name, has_value}
 use Rattle.table.proofs.TabulateLaws.{length_tabulate}
 use Rattle.soundness.specs.Sound.{sound_table}
@@ -22,12 +26,18 @@ use Rattle.saved.specs.Calls.{save_result, save}
 use Rattle.saved.proofs.BackLaws.{length_record}
 use Rattle.save.proofs.FormLaws.{records_more}
 
--- one zero more
-pub zero_more : (xs : List ℕ) (at j : ℕ) → set (overwrite_at xs at (replicate j 0)) (at + j) 0 ≡ overwrite_at xs at (replicate (j + 1) 0)
-unfolding overwrite_at
-zero_more xs at j =
-    rw (← replicate-append-replicate {A = ℕ} j 1 0)
-    (overwrite_append xs at (replicate j 0) (0 ∷ []) (at + j) (omega (arith, length-replicate {A = ℕ} j 0)))
+-- one zero more, and all of them
+pub zero_next : (xs : List ℕ) (i : ℕ) → i < length xs → xs ≡ replicate i 0 ++ drop i xs → set xs i 0 ≡ replicate (i + 1) 0 ++ drop (i + 1) (set xs i 0)
+zero_next xs i h e =
+    rw (drop-set-lt (i + 1) xs i 0 (omega arith)) (ap (λ (l : List ℕ). set l i 0) e ∙ fill_more i 0 xs h)
+
+pub zeros_stored : (out : List ℕ) (at n k : ℕ) (xs : List ℕ) → at + n ≤ length out → k ≡ n → length xs ≡ n → xs ≡ replicate n 0 ++ drop n xs
+    → take at out ++ (xs ++ drop k (drop at out)) ≡ overwrite_at out at (replicate n 0)
+zeros_stored out at n k xs fits same long e =
+    let none : drop n xs ≡ [] = rw long at (drop-length xs) in
+    let all : xs ≡ replicate n 0 = e ∙ rw (none, append-nil (replicate {A = ℕ} n 0)) in
+    let size : length (replicate {A = ℕ} n 0) ≡ n = length-replicate {A = ℕ} n 0 in
+    rw all (overwrite_mid out (replicate n 0) at k (omega (arith, size)) (omega (arith, size)))
 
 -- bytes stored over the first of those that were stored from a place on
 store_over : (xs : List ℕ) (at : ℕ) (ys zs : List ℕ) → at + length ys ≤ length xs → length zs ≤ length ys
@@ -68,12 +78,29 @@ store_behind out at bytes now end more now' h e g = g ∙ rw h (overwrite_append
 
 -- ---- the saved form, record by record
 
--- the record of an entry of a table
-pub length_entry_record : (heads bytes : List ℕ) (i : ℕ) {n : ℕ} → Readable n heads bytes → i < n → length (entry_record (entry_at heads bytes i)) ≡ entry_record_size
-length_entry_record heads bytes i r l =
-    length_record (entry_at heads bytes i)
-    (omega (arith, name_length_lem heads bytes i (has_name heads bytes i r.named l), r.named.names_fit i l))
-    (omega (arith, value_length_lem heads bytes i (has_value heads bytes i r l), r.values_fit i l))
+-- an entry that can be saved
+pub record Savable (m : TableMemory) (i : ℕ) : Type 0 where
+  pub there : HasName i m.heads m.bytes × HasValue i m.heads m.bytes
+  pub name_small : length (entry_of m i).name ≤ max_name_length
+  pub value_small : length (entry_of m i).value ≤ max_value_size
+  pub type_small : (entry_of m i).type ≤ 255
+  pub size : length (entry_record (entry_of m i)) ≡ entry_record_size
+
+pub savable : (m : TableMemory) (i : ℕ) → sound_table max_entries m ≡ true → i < m.count → Savable m i
+unfolding entry_at
+savable m i h l =
+    let r = sound_readable max_entries m h in
+    let name = has_name m.heads m.bytes i r.named l in
+    let value = has_value m.heads m.bytes i r l in
+    let name_small : length (entry_of m i).name ≤ max_name_length = omega (arith, name_length_lem m.heads m.bytes i name, r.named.names_fit i l) in
+    let value_small : length (entry_of m i).value ≤ max_value_size = omega (arith, value_length_lem m.heads m.bytes i value, r.values_fit i l) in
+    record {
+      there = (name, value);
+      name_small = name_small;
+      value_small = value_small;
+      type_small = r.types_fit i l;
+      size = length_record (entry_of m i) name_small value_small;
+    }
 
 -- the records of the first i entries are stored in out behind the first record, which gives now, and end where record i starts
 pub record RecordsStored (f : ℕ → Entry) (out now : List ℕ) (i : ℕ) : Type 0 where

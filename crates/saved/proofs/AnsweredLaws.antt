@@ -1,4 +1,5 @@
 -- What saving and loading answer.
+use Rattle.std.specs.Prelude.{Err, Ok}
 use mathlib.Core.Path.{◌≡◌, refl}
 use mathlib.Core.List.{List}
 use Prim.Native.Nat.{ℕ}
@@ -10,7 +11,7 @@ use Rattle.field.proofs.ChoiceLaws.{by_test}
 use Rattle.answer.specs.Answers.{done_answer}
 use Rattle.table.specs.Table.{TableMemory}
 use Rattle.saved.specs.Form.{saved_size}
-use Rattle.saved.specs.Reading.{Reading, refused, read, read_saved}
+use Rattle.saved.specs.Reading.{Reading, read_saved}
 use Rattle.saved.specs.Calls.{save, LoadResult, load_read, load}
 use Rattle.saved.specs.Answered.{SaveAnswered, FirstRefused, LoadAnswered, LoadsWhatSaveWrote}
 use Rattle.saved.proofs.ReadingLaws.{SavedIs, saved_is}
@@ -44,8 +45,8 @@ answers limit m marks saved =
     (λ _. record { at_done = λ e. absurd (omega arith); none_taken = λ _. refl; none_sent = refl; nobody_receives = refl })
   where
     go : (r : Reading) → SavedIs limit saved r → Answers (length saved) (load_read m (length saved) r)
-    go (refused fault) (SavedIs.rejected h) = record { at_done = λ e. absurd (omega (arith, h, e)); none_taken = λ _. refl; none_sent = refl; nobody_receives = refl }
-    go (read es) (SavedIs.entries l f q) = record { at_done = λ _. refl; none_taken = λ h. absurd (h refl); none_sent = refl; nobody_receives = refl }
+    go (Err fault) (SavedIs.rejected h) = record { at_done = λ e. absurd (omega (arith, h, e)); none_taken = λ _. refl; none_sent = refl; nobody_receives = refl }
+    go (Ok es) (SavedIs.entries l f q) = record { at_done = λ _. refl; none_taken = λ h. absurd (h refl); none_sent = refl; nobody_receives = refl }
 
 pub load_answered : LoadAnswered
 load_answered limit m marks saved =

@@ -1,4 +1,5 @@
 -- What holds of saving and loading.
+use Rattle.std.specs.Prelude.{Err, Ok}
 use mathlib.Core.Path.{◌≡◌, refl, sym, ap, ◌∙◌}
 use mathlib.Core.Bool.{true, and-eq-true_iff}
 use mathlib.Core.List.{List, [], ◌++◌}
@@ -24,7 +25,7 @@ use Rattle.soundness.specs.Sound.{sound_table, sound_marks}
 use Rattle.soundness.proofs.SoundLaws.{sound_facts, holds_large}
 use Rattle.soundness.proofs.StoredLaws.{entries_well_formed, entries_differ, entries_fit, empty_sound}
 use Rattle.saved.specs.Form.{saved_size, saved_form}
-use Rattle.saved.specs.Reading.{Reading, refused, read, read_saved}
+use Rattle.saved.specs.Reading.{Reading, read_saved}
 use Rattle.saved.specs.Calls.{SaveResult, save_result, save, LoadResult, load_result, all_closed, store_all, load_read, load}
 use Rattle.saved.specs.Loaded.{Saved, SaveGivesForm, OneTableOfForm, Loadable, LoadsWhatWasSaved, LoadsWhereClosed, LoadsFormsOnly, OneFormOfTable, LoadedIsSound, RefusedLoadKeeps, Covered, LoadChangesEntries}
 use Rattle.saved.proofs.ReadingLaws.{Fresh, SavedIs, saved_is, saved_back, length_form, sound_fresh}
@@ -39,7 +40,7 @@ module _ (limit : ℕ) (m : TableMemory) (s : sound_table limit m ≡ true) wher
   pub form_size : length (saved_form (entries_of m)) ≡ saved_size m.count
   form_size = length_form (entries_of m) fresh_entries ∙ ap saved_size (length_entries m)
 
-  form_read : read_saved limit (saved_form (entries_of m)) ≡ read (entries_of m)
+  form_read : read_saved limit (saved_form (entries_of m)) ≡ Ok (entries_of m)
   form_read = saved_back limit (entries_of m) (entries_fit limit m s) fresh_entries
 
   emptied_sound : sound_table limit (emptied m) ≡ true
@@ -76,10 +77,10 @@ save_gives_form limit m out = step.at_done
         (λ _. record { at_done = λ e. absurd (omega arith) })) (λ _. record { at_done = λ e. absurd (omega arith) })
 
 entries_read : Reading → List Entry
-entries_read (refused fault) = []
-entries_read (read es) = es
+entries_read (Err fault) = []
+entries_read (Ok es) = es
 
-unread : {xs ys : List Entry} → read xs ≡ read ys → xs ≡ ys
+unread : {xs ys : List Entry} → ◌≡◌ {A = Reading} (Ok xs) (Ok ys) → xs ≡ ys
 unfolding entries_read
 unread q = ap entries_read q
 
@@ -107,8 +108,8 @@ load_is limit m marks saved =
 
     go : (sound_table limit m ≡ true) × (sound_marks marks ≡ true) → all_closed marks ≡ true → (r : Reading) → SavedIs limit saved r
         → LoadIs limit m marks saved (load_read m (length saved) r)
-    go s c (refused fault) (SavedIs.rejected h) = LoadIs.rejected {answer = refused_answer fault} h
-    go s c (read es) (SavedIs.entries l f q) = LoadIs.stored (record { table_sound = s.0; marks_sound = s.1; closed = c }) l f q
+    go s c (Err fault) (SavedIs.rejected h) = LoadIs.rejected {answer = refused_answer fault} h
+    go s c (Ok es) (SavedIs.entries l f q) = LoadIs.stored (record { table_sound = s.0; marks_sound = s.1; closed = c }) l f q
 
 -- the table that a done load leaves
 module _ {limit : ℕ} {m : TableMemory} {marks : List ℕ} {es : List Entry} (can : Loadable limit m marks) (l : length es ≤ limit) (f : Fresh [] es) where

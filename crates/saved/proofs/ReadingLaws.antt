@@ -21,7 +21,7 @@ use Rattle.table.specs.Table.{default_entry}
 use Rattle.table.proofs.NamesLaws.{differ_last, differ_at, at_differ}
 use Rattle.soundness.proofs.StoredLaws.{AllWellFormed}
 use Rattle.saved.specs.Form.{count_kind, count_record_size, entry_record_size, saved_size, count_record, entry_record, entry_records, saved_form}
-use Rattle.saved.specs.Reading.{Reading, refused, read, record_entry, parse_opening, parse_record, count_in, parse_count, read_records, read_saved}
+use Rattle.saved.specs.Reading.{Reading, record_entry, parse_opening, parse_record, count_in, parse_count, read_records, read_saved}
 use Rattle.saved.proofs.RecordLaws.{OpeningIs, opening_is, RecordIs, record_is, record_of_entry, entry_obeys}
 use Rattle.saved.proofs.BackLaws.{opening_taken, length_record, record_taken, record_rest, record_entry_lem}
 
@@ -34,8 +34,8 @@ pub data Fresh : List Entry → List Entry → Type 0 where
 
 -- what is read behind the entries xs: so many entries, and the bytes are their records
 data RecordsAre (count : ℕ) (xs : List Entry) (s : List ℕ) : Reading → Type 0 where
-  rejected : {fault : Fault} → 1 ≤ fault.number → RecordsAre count xs s (refused fault)
-  entries : {all : List Entry} (es : List Entry) → all ≡ xs ++ es → length es ≡ count → Fresh xs es → (Bytes s → s ≡ entry_records es) → RecordsAre count xs s (read all)
+  rejected : {fault : Fault} → 1 ≤ fault.number → RecordsAre count xs s (Err fault)
+  entries : {all : List Entry} (es : List Entry) → all ≡ xs ++ es → length es ≡ count → Fresh xs es → (Bytes s → s ≡ entry_records es) → RecordsAre count xs s (Ok all)
 
 empty : (s : List ℕ) → length s ≤ 0 → s ≡ []
 empty [] h = refl
@@ -47,8 +47,8 @@ bytes_drop n s o i = rw (get_or-drop n s i 0) (o (n + i))
 read_next : (count : ℕ) (xs : List Entry) (s : List ℕ) (e : Entry) → (Bytes s → s ≡ entry_record e ++ drop entry_record_size s) → WellFormed e
     → name_held e.name xs ≡ false → (r : Reading) → RecordsAre count (xs ++ (e ∷ [])) (drop entry_record_size s) r → RecordsAre (suc count) xs s r
 unfolding entry_records
-read_next count xs s e c w h (refused fault) (RecordsAre.rejected l) = RecordsAre.rejected l
-read_next count xs s e c w h (read all) (RecordsAre.entries es a l f q) =
+read_next count xs s e c w h (Err fault) (RecordsAre.rejected l) = RecordsAre.rejected l
+read_next count xs s e c w h (Ok all) (RecordsAre.entries es a l f q) =
     RecordsAre.entries (e ∷ es) (a ∙ append_assoc xs (e ∷ []) es) (ap suc l) (Fresh.more w h f)
     (λ o. c o ∙ ap (λ (t : List ℕ). entry_record e ++ t) (q (bytes_drop entry_record_size s o)))
 
@@ -61,8 +61,8 @@ records_are (suc count) xs place s = go (parse_record s) (record_is s) (λ e n. 
   where
     go : (r : Parsed) → RecordIs s r
         → ((e : Entry) (n : ℕ) → RecordsAre count (xs ++ (e ∷ [])) (drop n s) (read_records count (xs ++ (e ∷ [])) (place + n) (drop n s)))
-        → RecordsAre (suc count) xs s (and_then refused (moved_by place r) (λ n.
-        pick (name_held (record_entry s).name xs) (refused (fault_at name_taken place)) (read_records count (xs ++ (record_entry s ∷ [])) (place + n) (drop n s))))
+        → RecordsAre (suc count) xs s (and_then Err (moved_by place r) (λ n.
+        pick (name_held (record_entry s).name xs) (Err (fault_at name_taken place)) (read_records count (xs ++ (record_entry s ∷ [])) (place + n) (drop n s))))
     go (Err fault) (RecordIs.refused h l) ih = RecordsAre.rejected {fault = fault_at fault.number (place + fault.place)} h
     go (Ok n) (RecordIs.taken f g) ih =
         by_test (RecordsAre (suc count) xs s) _ _ _ (λ _. RecordsAre.rejected {fault = fault_at name_taken place} (omega arith)) (λ new.
@@ -80,8 +80,8 @@ front (x ∷ y ∷ s) k h = ap (λ (z : ℕ). z ∷ y ∷ s) k
 
 -- what is read: so many entries at most that obey the rules, with names that differ, and the bytes are their saved form
 pub data SavedIs (limit : ℕ) (s : List ℕ) : Reading → Type 0 where
-  rejected : {fault : Fault} → 1 ≤ fault.number → SavedIs limit s (refused fault)
-  entries : {es : List Entry} → length es ≤ limit → Fresh [] es → (Bytes s → s ≡ saved_form es) → SavedIs limit s (read es)
+  rejected : {fault : Fault} → 1 ≤ fault.number → SavedIs limit s (Err fault)
+  entries : {es : List Entry} → length es ≤ limit → Fresh [] es → (Bytes s → s ≡ saved_form es) → SavedIs limit s (Ok es)
 
 pub saved_is : (limit : ℕ) (s : List ℕ) → SavedIs limit s (read_saved limit s)
 unfolding read_saved parse_count
@@ -89,28 +89,28 @@ saved_is limit s = go (parse_opening count_kind limit s) (opening_is count_kind 
   where
     end : count_in s ≤ limit → s ≡ count_record (count_in s) ++ drop count_record_size s
         → (r : Reading) → RecordsAre (count_in s) [] (drop count_record_size s) r → SavedIs limit s r
-    end l c (refused fault) (RecordsAre.rejected h) = SavedIs.rejected h
-    end l c (read all) (RecordsAre.entries es a m f q) =
+    end l c (Err fault) (RecordsAre.rejected h) = SavedIs.rejected h
+    end l c (Ok all) (RecordsAre.entries es a m f q) =
         unfold saved_form in (
         let fresh : Fresh [] all = rw a f in
         let form : Bytes s → s ≡ count_record (length all) ++ entry_records all = λ o. c ∙ rw (a, m, q (bytes_drop count_record_size s o)) in
         let few : length all ≤ limit = rw a (omega (arith, l, m)) in
         SavedIs.entries {es = all} few fresh form)
 
-    go : (r : Parsed) → OpeningIs count_kind limit s r → SavedIs limit s (and_then refused r (λ n. read_records (count_in s) [] n (drop n s)))
+    go : (r : Parsed) → OpeningIs count_kind limit s r → SavedIs limit s (and_then Err r (λ n. read_records (count_in s) [] n (drop n s)))
     go (Err fault) (OpeningIs.refused h l) = SavedIs.rejected h
     go (Ok n) (OpeningIs.opened kind small there) = end small (front s kind there) _ (records_are (count_in s) [] count_record_size (drop count_record_size s))
 
 -- ---- reading back
 
-records_back : (es xs : List Entry) (place : ℕ) → Fresh xs es → read_records (length es) xs place (entry_records es) ≡ read (xs ++ es)
+records_back : (es xs : List Entry) (place : ℕ) → Fresh xs es → read_records (length es) xs place (entry_records es) ≡ Ok (xs ++ es)
 unfolding read_records entry_records pick
 records_back [] xs place f = rw (append-nil xs)
 records_back (e ∷ es) xs place (Fresh.more w h f) =
     rw (record_taken e (entry_records es) w, record_rest e (entry_records es) w, record_entry_lem e (entry_records es) w, h)
-    (records_back es (xs ++ (e ∷ [])) (place + entry_record_size) f ∙ ap read (append_assoc xs (e ∷ []) es))
+    (records_back es (xs ++ (e ∷ [])) (place + entry_record_size) f ∙ ap Ok (append_assoc xs (e ∷ []) es))
 
-pub saved_back : (limit : ℕ) (es : List Entry) → length es ≤ limit → Fresh [] es → read_saved limit (saved_form es) ≡ read es
+pub saved_back : (limit : ℕ) (es : List Entry) → length es ≤ limit → Fresh [] es → read_saved limit (saved_form es) ≡ Ok es
 unfolding read_saved parse_count saved_form count_record
 saved_back limit es l f =
     let long : length (saved_form es) ≡ 2 + length (entry_records es) = omega arith in

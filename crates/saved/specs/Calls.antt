@@ -1,5 +1,5 @@
 -- Saving and loading on lent memory.
-use Rattle.std.specs.Prelude.{ℕ, Bool, ◌&&◌, List, [], ◌∷◌, length, get_or, leb, eqb}
+use Rattle.std.specs.Prelude.{ℕ, Bool, ◌&&◌, List, [], ◌∷◌, length, get_or, leb, eqb, Err, Ok}
 use Rattle.field.specs.Answer.{wrong_state, output_too_short, unsound}
 use Rattle.field.specs.Choice.{demand}
 use Rattle.field.specs.Octets.{overwrite_at}
@@ -9,7 +9,7 @@ use Rattle.message.specs.Layout.{Entry}
 use Rattle.table.specs.Table.{TableMemory, emptied, entries_of, store_entry}
 use Rattle.soundness.specs.Sound.{all_below, sound_table, sound_marks, connections, closed}
 use Rattle.saved.specs.Form.{saved_size, saved_form}
-use Rattle.saved.specs.Reading.{Reading, refused, read, read_saved}
+use Rattle.saved.specs.Reading.{Reading, read_saved}
 
 -- ---- saving
 
@@ -49,8 +49,8 @@ store_all m (e ∷ es) = store_all (store_entry m e) es
 
 -- "it changes the count and entries only, and a refusal changes nothing"
 abbrev pub load_read : TableMemory → (taken : ℕ) → Reading → LoadResult
-load_read m taken (refused fault) = load_result (refused_answer fault) m
-load_read m taken (read es) = load_result (done_answer 0 taken 0) (store_all (emptied m) es)
+load_read m taken (Err fault) = load_result (refused_answer fault) m
+load_read m taken (Ok es) = load_result (done_answer 0 taken 0) (store_all (emptied m) es)
 
 -- "Refusals, loading: 14, 3, then left to right .."
 unfoldable pub load : (limit : ℕ) → TableMemory → (marks saved : List ℕ) → LoadResult

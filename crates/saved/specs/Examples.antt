@@ -1,9 +1,9 @@
 -- The saved form of one table, and what reading it answers where a byte of it is another: computed.
-use Rattle.std.specs.Prelude.{ℕ, List, [], ◌∷◌, ◌++◌, ◌≡◌, take, drop, set, replicate}
+use Rattle.std.specs.Prelude.{ℕ, List, [], ◌∷◌, ◌++◌, ◌≡◌, take, drop, set, replicate, Err, Ok}
 use Rattle.field.specs.Field.{fault_at}
 use Rattle.message.specs.Layout.{Entry}
 use Rattle.saved.specs.Form.{saved_form}
-use Rattle.saved.specs.Reading.{Reading, refused, read, read_saved}
+use Rattle.saved.specs.Reading.{Reading, read_saved}
 
 -- the entry "a", Boolean true, number 2
 abbrev pub example_entry : Entry
@@ -21,30 +21,30 @@ abbrev pub read_with : (k x : ℕ) → Reading
 read_with k x = read_saved 64 (set example_form k x)
 
 pub record ReadingsOfExample : Type 0 where
-  pub whole : read_saved 64 example_form ≡ read (example_entry ∷ [])
-  pub number : read_with 69 3 ≡ read (record { name = 97 ∷ []; type = 0; number = 770; value = 1 ∷ [] } ∷ [])
+  pub whole : read_saved 64 example_form ≡ Ok (example_entry ∷ [])
+  pub number : read_with 69 3 ≡ Ok (record { name = 97 ∷ []; type = 0; number = 770; value = 1 ∷ [] } ∷ [])
   -- the first record: kind, count, bytes behind the last one
-  pub first_kind : read_with 0 3 ≡ refused (fault_at 4 0)
-  pub count_above : read_with 1 65 ≡ refused (fault_at 10 1)
-  pub count_short : read_with 1 0 ≡ refused (fault_at 10 2)
-  pub bytes_left : read_saved 64 (example_form ++ (0 ∷ [])) ≡ refused (fault_at 10 329)
+  pub first_kind : read_with 0 3 ≡ Err (fault_at 4 0)
+  pub count_above : read_with 1 65 ≡ Err (fault_at 10 1)
+  pub count_short : read_with 1 0 ≡ Err (fault_at 10 2)
+  pub bytes_left : read_saved 64 (example_form ++ (0 ∷ [])) ≡ Err (fault_at 10 329)
   -- an entry's: kind, name, type, lengths, value, each filling at its first byte
-  pub entry_kind_lem : read_with 2 1 ≡ refused (fault_at 4 2)
-  pub name_length_lem : read_with 3 65 ≡ refused (fault_at 10 3)
-  pub name_empty : read_with 3 0 ≡ refused (fault_at 15 4)
-  pub name_text : read_with 4 255 ≡ refused (fault_at 9 4)
-  pub name_filling : read_with 67 1 ≡ refused (fault_at 15 5)
-  pub other_type : read_with 68 3 ≡ refused (fault_at 7 68)
-  pub value_length_lem : read_with 71 1 ≡ refused (fault_at 10 71)
-  pub value_empty : read_with 72 0 ≡ refused (fault_at 1 73)
-  pub value_byte : read_with 73 2 ≡ refused (fault_at 8 73)
-  pub value_left : read_with 72 2 ≡ refused (fault_at 10 74)
-  pub value_filling : read_with 328 1 ≡ refused (fault_at 15 74)
+  pub entry_kind_lem : read_with 2 1 ≡ Err (fault_at 4 2)
+  pub name_length_lem : read_with 3 65 ≡ Err (fault_at 10 3)
+  pub name_empty : read_with 3 0 ≡ Err (fault_at 15 4)
+  pub name_text : read_with 4 255 ≡ Err (fault_at 9 4)
+  pub name_filling : read_with 67 1 ≡ Err (fault_at 15 5)
+  pub other_type : read_with 68 3 ≡ Err (fault_at 7 68)
+  pub value_length_lem : read_with 71 1 ≡ Err (fault_at 10 71)
+  pub value_empty : read_with 72 0 ≡ Err (fault_at 1 73)
+  pub value_byte : read_with 73 2 ≡ Err (fault_at 8 73)
+  pub value_left : read_with 72 2 ≡ Err (fault_at 10 74)
+  pub value_filling : read_with 328 1 ≡ Err (fault_at 15 74)
   -- a cut in it, and the same name twice
-  pub nothing : read_saved 64 [] ≡ refused (fault_at 1 0)
-  pub cut : read_saved 64 (take 328 example_form) ≡ refused (fault_at 1 74)
-  pub same_name : read_saved 64 (1 ∷ 2 ∷ (drop 2 example_form ++ drop 2 example_form)) ≡ refused (fault_at 13 329)
+  pub nothing : read_saved 64 [] ≡ Err (fault_at 1 0)
+  pub cut : read_saved 64 (take 328 example_form) ≡ Err (fault_at 1 74)
+  pub same_name : read_saved 64 (1 ∷ 2 ∷ (drop 2 example_form ++ drop 2 example_form)) ≡ Err (fault_at 13 329)
   -- 13 before the next record's kind, and before bytes left; behind its own filling
-  pub same_name_first : read_saved 64 (1 ∷ 3 ∷ (drop 2 example_form ++ (drop 2 example_form ++ (9 ∷ [])))) ≡ refused (fault_at 13 329)
-  pub same_name_left : read_saved 64 (1 ∷ 2 ∷ (drop 2 example_form ++ (drop 2 example_form ++ (9 ∷ [])))) ≡ refused (fault_at 13 329)
-  pub same_name_last : read_saved 64 (1 ∷ 2 ∷ (drop 2 example_form ++ drop 2 (set example_form 328 1))) ≡ refused (fault_at 15 401)
+  pub same_name_first : read_saved 64 (1 ∷ 3 ∷ (drop 2 example_form ++ (drop 2 example_form ++ (9 ∷ [])))) ≡ Err (fault_at 13 329)
+  pub same_name_left : read_saved 64 (1 ∷ 2 ∷ (drop 2 example_form ++ (drop 2 example_form ++ (9 ∷ [])))) ≡ Err (fault_at 13 329)
+  pub same_name_last : read_saved 64 (1 ∷ 2 ∷ (drop 2 example_form ++ drop 2 (set example_form 328 1))) ≡ Err (fault_at 15 401)

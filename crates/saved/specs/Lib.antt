@@ -1,4 +1,5 @@
 pub mod Form
+pub mod Kinds
 pub mod Reading
 pub mod Calls
 pub mod Loaded

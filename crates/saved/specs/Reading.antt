@@ -1,7 +1,7 @@
 -- The reader of a saved form: "left to right 1, 4, 10 for a count or name length above 64 or a value length above 256, 9, 7, the value's own as for a local
 -- value of its stated length, 15 for filling that is not zero, judged after the text or value it follows; 13 once an entry's record is read; last 10
 -- for bytes left. A name, a value of its stated length and each filling are one field each, judged as in 01 once wholly there".
-use Rattle.std.specs.Prelude.{ℕ, zero, suc, ◌+◌, ◌-◌, Bool, true, ◌&&◌, List, [], ◌∷◌, ◌++◌, length, drop, get_or, leb, eqb, Err, Ok}
+use Rattle.std.specs.Prelude.{ℕ, zero, suc, ◌+◌, ◌-◌, Bool, true, ◌&&◌, List, [], ◌∷◌, ◌++◌, length, drop, get_or, leb, eqb, Result, Err, Ok}
 use Rattle.field.specs.Answer.{incomplete, unknown_kind, unknown_type, not_utf8, too_long, name_taken, bad_filling}
 use Rattle.field.specs.Choice.{pick, demand}
 use Rattle.field.specs.Octets.{decode16}
@@ -93,16 +93,15 @@ parse_record s = and_then Err (parse_up_to_type s) (λ n. parse_from_type s)
 -- ---- the whole
 
 -- a refusal, or the entries of all records
-pub data Reading : Type 0 where
-  refused : Fault → Reading
-  read : List Entry → Reading
+abbrev pub Reading : Type 0
+Reading = Result (List Entry) Fault
 
 -- so many records more from a place on, behind those of the entries es: "13 once an entry's record is read; last 10 for bytes left"
 unfoldable pub read_records : ℕ → List Entry → (place : ℕ) → List ℕ → Reading
-read_records zero es place s = demand (leb (length s) 0) (refused (fault_at too_long place)) (read es)
+read_records zero es place s = demand (leb (length s) 0) (Err (fault_at too_long place)) (Ok es)
 read_records (suc count) es place s =
-    and_then refused (moved_by place (parse_record s)) (λ n.
-    pick (name_held (record_entry s).name es) (refused (fault_at name_taken place))
+    and_then Err (moved_by place (parse_record s)) (λ n.
+    pick (name_held (record_entry s).name es) (Err (fault_at name_taken place))
     (read_records count (es ++ (record_entry s ∷ [])) (place + n) (drop n s)))
 
 -- the entry count, and where it stands
@@ -114,4 +113,4 @@ unfoldable pub parse_count : (limit : ℕ) → List ℕ → Parsed
 parse_count limit s = parse_opening count_kind limit s
 
 unfoldable pub read_saved : (limit : ℕ) → List ℕ → Reading
-read_saved limit s = and_then refused (parse_count limit s) (λ n. read_records (count_in s) [] n (drop n s))
+read_saved limit s = and_then Err (parse_count limit s) (λ n. read_records (count_in s) [] n (drop n s))

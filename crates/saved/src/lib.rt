@@ -4,11 +4,22 @@
 ghost use Rattle.std.specs.Prelude.{◌≡◌, ◌≤◌};
 ghost use Rattle.table.specs.Table.{max_entries};
 ghost use Rattle.saved.specs.Form.{saved_size};
+ghost use Rattle.saved.specs.Kinds.{record_kind_byte};
 
-// The first record's kind, and an entry's.
-pub const COUNT_KIND: u8 = 1;
+// Kinds of records: the first, and an entry's.
+#[derive(Clone, Copy, PartialEq, Eq)]
+pub enum RecordKind {
+    Count = 1,
+    Entry = 2,
+}
 
-pub const ENTRY_KIND: u8 = 2;
+impl From<RecordKind> for u8 {
+    ghost from_gives = { λ kind byte. byte ≡ record_kind_byte kind };
+
+    fn from(kind: RecordKind) -> u8 {
+        kind as u8
+    }
+}
 
 // Every record opens with its kind and a byte: the count, or the name's length.
 pub const OPENING_SIZE: usize = message::KIND_SIZE + 1;

@@ -1,2 +1,2 @@
 pub mod ZeroLaws
-pub mod ValueLaws
+pub mod ReadLaws

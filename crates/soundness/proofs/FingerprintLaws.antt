@@ -1,14 +1,16 @@
 -- Laws of fingerprints, of their owners, and of names that are held before.
-use Rattle.std.proofs.Common.{◌≡◌, ℕ, zero, suc, ◌+◌, ◌*◌, ◌%◌, ◌^◌, ◌<◌, ◌≤◌, Bool, true, false, eqb, ◌⊎◌, List, length, get_or, set, sym, refl, ap, ◌∙◌, inl, inr, ⊎_elim, true≢false, mul-le-mul_right, mod-lt, mul-le-mul_left, add-one, arith, get_or-set_other, get_or-set_same, below_more, ne_eqb, eqb-true}
+use Rattle.std.proofs.Common.{◌≡◌, ℕ, zero, suc, ◌+◌, ◌*◌, ◌%◌, ◌^◌, ◌<◌, ◌≤◌, Bool, true, false, not, eqb, List, length, get_or, set, sym, refl, ap, ◌∙◌, inl, inr, ⊎_elim, mul-le-mul_right, mod-lt, mul-le-mul_left, add-one, arith, get_or-set_other, get_or-set_same, below_more, ne_eqb, eqb-true}
+use Rattle.std.specs.Prelude.{IsTrue, ◌↔◌}
+use mathlib.Core.Logic.{◌≢◌}
+use mathlib.Core.Bool.{false≢true}
 use borrow.Author.Tests.{eqb-false}
 use Rattle.field.specs.Choice.{pick}
-use Rattle.field.specs.Octets.{bytes_equal}
 use Rattle.field.proofs.EqualLaws.{bytes_equal_false, equal_bytes}
 use Rattle.message.specs.Layout.{Entry}
-use Rattle.table.specs.Names.{name_held}
+use Rattle.table.specs.Names.{name_held, names_differ}
 use Rattle.table.specs.Table.{tabulate}
-use Rattle.table.proofs.SearchLaws.{held_below, absent_below}
-use Rattle.soundness.specs.Fingerprint.{fingerprints, several, weight_at, weighed, fingerprint_of, Covers}
+use Rattle.table.proofs.SearchLaws.{held_below, absent_below, differ_held}
+use Rattle.soundness.specs.Fingerprint.{fingerprints, several, weight_at, weighed, fingerprint_of, Covers, Owned}
 
 -- ---- the number
 
@@ -33,10 +35,6 @@ unfolding fingerprint_of
 fingerprint_small name = mod-lt (weighed (length name) name) {m = 1024} (omega arith)
 
 -- ---- owners
-
--- entry j owns its fingerprint, alone or as one of several
-abbrev pub Owned : List ℕ → (ℕ → Entry) → ℕ → Type 0
-Owned owners f j = (get_or owners (fingerprint_of (f j).name) 0 ≡ j + 1) ⊎ (get_or owners (fingerprint_of (f j).name) 0 ≡ several)
 
 pub covers : (owners : List ℕ) (f : ℕ → Entry) (i : ℕ) → ((j : ℕ) → j < i → Owned owners f j) → Covers i f (get_or owners (fingerprint_of (f i).name) 0)
 covers owners f i all j l e = rw (ap fingerprint_of e) at (all j l)
@@ -78,17 +76,30 @@ owned_more owners f i room all = below_more _ i before here
 
 -- ---- names held before
 
--- no entry before entry i can have its name
-pub held_by_none : (f : ℕ → Entry) (i owner : ℕ) → Covers i f owner → owner ≡ 0 → name_held (f i).name (tabulate i f) ≡ false
-held_by_none f i owner r e = absent_below (f i).name f i (λ j l. bytes_equal_false (f j).name (f i).name (λ q. ⊎_elim (λ h. omega (arith, h)) (λ h. omega (arith, h)) (r j l q)))
+-- entry j, before entry i, has its name; or none before it has
+module _ (f : ℕ → Entry) (i : ℕ) where
+  pub name_met : (j : ℕ) → j < i → (f j).name ≡ (f i).name → true ≡ name_held (f i).name (tabulate i f)
+  name_met j l e = sym (held_below (f i).name f i j l (equal_bytes (f j).name (f i).name e))
 
--- one entry alone can
-pub held_by_one : (f : ℕ → Entry) (i owner o : ℕ) → Covers i f owner → i < several → o < i → owner ≡ o + 1
-    → bytes_equal (f o).name (f i).name ≡ name_held (f i).name (tabulate i f)
-held_by_one f i owner o r small l e = go (bytes_equal (f o).name (f i).name) refl
+  pub name_new : ((j : ℕ) → j < i → (f j).name ≢ (f i).name) → false ≡ name_held (f i).name (tabulate i f)
+  name_new h = sym (absent_below (f i).name f i (λ j l. bytes_equal_false (f j).name (f i).name (h j l)))
+
+  -- by the owner of its fingerprint: none before it can have the name, or one alone can, which is looked at
+  pub held_by_none : (owner : ℕ) → Covers i f owner → owner ≡ 0 → false ≡ name_held (f i).name (tabulate i f)
+  held_by_none owner r e = name_new (λ j l q. ⊎_elim (λ h. omega (arith, h)) (λ h. omega (arith, h)) (r j l q))
+
+  pub held_by_one : (owner o : ℕ) (same : Bool) → Covers i f owner → i < several → o < i → owner ≡ o + 1 → IsTrue same ↔ ((f o).name ≡ (f i).name)
+      → same ≡ name_held (f i).name (tabulate i f)
+  held_by_one owner o true r small l e h = name_met o l (h.0 refl)
+  held_by_one owner o false r small l e h =
+      name_new (λ j m p.
+      let s : j ≡ o = ⊎_elim (λ h. omega (arith, h)) (λ h. absurd (omega (arith, h))) (r j m p) in
+      false≢true (h.1 (rw s at p)))
+
+-- a name that is not new: the names do not all differ
+pub differ_old : (n : ℕ) (f : ℕ → Entry) (i : ℕ) → i < n → false ≡ not (name_held (f i).name (tabulate i f)) → false ≡ names_differ (tabulate n f)
+differ_old n f i l h = go (name_held (f i).name (tabulate i f)) refl h
   where
-    go : (t : Bool) → bytes_equal (f o).name (f i).name ≡ t → t ≡ name_held (f i).name (tabulate i f)
-    go true q = sym (held_below (f i).name f i o l q)
-    go false q = sym (absent_below (f i).name f i (λ j m. bytes_equal_false (f j).name (f i).name (λ p.
-        let s : j ≡ o = ⊎_elim (λ h. omega (arith, h)) (λ h. absurd (omega (arith, h))) (r j m p) in
-        true≢false (sym (equal_bytes (f o).name (f i).name (rw s at p)) ∙ q))))
+    go : (held : Bool) → name_held (f i).name (tabulate i f) ≡ held → false ≡ not held → false ≡ names_differ (tabulate n f)
+    go true e q = sym (differ_held n f i l e)
+    go false e q = absurd (false≢true q)

@@ -1,5 +1,5 @@
 -- Fingerprints of names, by which those that may be equal are found. No promise of a public call names them.
-use Rattle.std.specs.Prelude.{◌≡◌, ℕ, zero, suc, ◌+◌, ◌*◌, ◌%◌, ◌^◌, ◌<◌, ◌⊎◌, List, length, slice_index}
+use Rattle.std.specs.Prelude.{◌≡◌, ℕ, zero, suc, ◌+◌, ◌*◌, ◌%◌, ◌^◌, ◌<◌, ◌⊎◌, List, length, slice_index, get_or}
 use Rattle.message.specs.Layout.{Entry}
 
 abbrev pub fingerprints : ℕ
@@ -31,3 +31,11 @@ fingerprint_of name = weighed (length name) name % fingerprints
 -- an owner covers each entry before entry i that has its name: it is entry j, as j + 1, or several
 abbrev pub Covers : ℕ → (ℕ → Entry) → ℕ → Type 0
 Covers i f owner = (j : ℕ) → j < i → (f j).name ≡ (f i).name → (owner ≡ j + 1) ⊎ (owner ≡ several)
+
+-- entry j owns its fingerprint, alone or as one of several
+abbrev pub Owned : List ℕ → (ℕ → Entry) → ℕ → Type 0
+Owned owners f j = (get_or owners (fingerprint_of (f j).name) 0 ≡ j + 1) ⊎ (get_or owners (fingerprint_of (f j).name) 0 ≡ several)
+
+-- each entry before entry i does
+abbrev pub AllOwned : List ℕ → (ℕ → Entry) → ℕ → Type 0
+AllOwned owners f i = (j : ℕ) → j < i → Owned owners f j

@@ -1,19 +1,20 @@
 // Whether lent memory is sound.
 #![tactic(auto)]
 
-ghost use Rattle.std.specs.Prelude.{◌≡◌, ◌+◌, ◌*◌, ◌<◌, ◌≤◌, length, ◌==◌, true, IsSome, IfSome, ◌↔◌};
+ghost use Rattle.std.specs.Prelude.{◌≡◌, ℕ, ◌+◌, ◌*◌, ◌<◌, ◌≤◌, length, ◌==◌, true, not, IsSome, IfSome, ◌↔◌};
 ghost use Rattle.field.specs.Choice.{pick};
 ghost use Rattle.value.specs.Value.{IsValue};
-ghost use Rattle.message.specs.Layout.{max_name_length};
+ghost use Rattle.message.specs.Layout.{Entry, max_name_length};
 ghost use Rattle.message.specs.Lent.{entry_lent};
 ghost use Rattle.table.specs.Memory.{memory_of};
 ghost use Rattle.table.specs.Names.{entry_named, name_held, names_differ};
-ghost use Rattle.table.specs.Table.{Holds, Named, entry_at, entry_of, lent, entries_of, parse_held_update, max_entries};
-ghost use Rattle.soundness.specs.Fingerprint.{fingerprints, several, weight_at, fingerprint_of, Covers};
+ghost use Rattle.table.specs.Table.{Holds, Named, entry_of, entries_of, tabulate, parse_held_update, max_entries};
+ghost use Rattle.soundness.specs.Fingerprint.{several, weight_at, fingerprint_of, Covers, AllOwned};
 ghost use Rattle.soundness.specs.Sound.{all_below, sound_entry, sound_table, sound_marks};
 
 use field::Fault;
 use message::{LentEntry, Update};
+use std::marker::Model;
 use table::Table;
 
 pub const CONNECTIONS: usize = 16;
@@ -146,22 +147,60 @@ pub fn fingerprint(name: &[u8]) -> usize
     usize::from(sum) % FINGERPRINTS
 }
 
-// Whether entry i's name is held by an entry before it, where its fingerprint has this owner.
-fn held_before(table: Table, i: usize, owner: u8) -> bool
-    requires names { (i < several) × Named (i + 1) table.heads.now table.bytes.now }
-    requires owner { Covers i (entry_at table.heads.now table.bytes.now) owner }
-    ensures { result ≡ name_held (entry_of (memory_of table.entry) i).name
-        (entries_of (lent table.entry.heads.now table.entry.bytes.now i)) }
+// Entries by their places, whose names are looked at.
+pub trait Names {
+    ghost entry: { Self → ℕ → Entry };
+
+    // The entry is there, and its name is no longer than a name may be.
+    ghost is_there: { Self → ℕ → Type 0 };
+
+    fn name_at(&self, i: usize) -> &[u8]
+        requires { is_there self.now i }
+        ensures name { result.now ≡ (entry self.now i).name }
+        ensures size { length result.now ≤ max_name_length };
+}
+
+impl<'a> Names for Table<'a> {
+    ghost entry = { λ table. entry_of (memory_of table) };
+
+    ghost is_there = { λ table i. Named (i + 1) table.heads.now table.bytes.now };
+
+    fn name_at(&self, i: usize) -> &[u8] {
+        self.name_of(i)
+    }
+}
+
+// Whether entry i's name is held by an entry before it.
+#[tactic(auto, using(crate::proofs::FingerprintLaws::name_met, crate::proofs::FingerprintLaws::name_new))]
+fn name_held<N: Names>(names: &N, i: usize) -> bool
+    requires { (j : ℕ) → j ≤ i → N.is_there names.now j }
+    ensures { result ≡ name_held (N.entry names.now i).name (tabulate i (N.entry names.now)) }
+{
+    let name = names.name_at(i);
+    for j in 0..i {
+        if table::is_name(names.name_at(j), name) {
+            return true;
+        }
+    }
+    false
+}
+
+// The same, where the name's fingerprint has this owner.
+#[tactic(auto, using(crate::proofs::FingerprintLaws::held_by_none, crate::proofs::FingerprintLaws::held_by_one))]
+fn held_before<N: Names>(names: &N, i: usize, owner: u8) -> bool
+    requires place { i < several }
+    requires names { (j : ℕ) → j ≤ i → N.is_there names.now j }
+    requires owner { Covers i (N.entry names.now) owner }
+    ensures { result ≡ name_held (N.entry names.now i).name (tabulate i (N.entry names.now)) }
 {
     if owner == 0 {
         return false;
     }
-    let name = table.name_of(i);
     let other = usize::from(owner - 1);
     if other >= i {
-        return table.first(i as u16).find_name(name).is_some();
+        return name_held(names, i);
     }
-    table.name_of(other) == name
+    table::is_name(names.name_at(other), names.name_at(i))
 }
 
 // The owner of a fingerprint once entry i has it too: i + 1 where none had it (0), else SEVERAL.
@@ -173,25 +212,43 @@ pub fn next_owner(owner: u8, i: usize) -> u8
     if owner == 0 { (i + 1) as u8 } else { SEVERAL }
 }
 
-// Whether the names of all entries differ: none is held by an entry before it. `owners` has each fingerprint's owner so far, 0 where it
-// has none, and may hold anything at first.
-fn all_differ(table: Table, owners: &mut [u8]) -> bool
-    requires names { (table.count ≤ several) × Named table.count table.heads.now table.bytes.now }
-    requires owners { fingerprints ≤ length owners.old }
-    ensures { result ≡ names_differ (entries_of (memory_of table.entry)) }
-{
-    for i in 0..table.len() {
-        let f = fingerprint(table.name_of(i));
-        let owner = owners[f];
-        if held_before(table, i, owner) {
-            return false;
-        }
-        owners[f] = next_owner(owner, i);
-    }
-    true
+// Each fingerprint's owner so far, 0 where it has none. Stays: an Option has two bytes, and 1,024 of them are cleared at each call on a table.
+#[derive(Drop)]
+pub struct Owners {
+    owners: [u8; FINGERPRINTS],
 }
 
-// Whether the names of all entries differ, each looked at once.
+impl Model for Owners {
+    ghost use Rattle.std.specs.Prelude.{ℕ, List};
+
+    ghost Value = { List ℕ };
+
+    ghost view = { λ owners. owners.owners };
+}
+
+impl Owners {
+    pub fn new() -> Owners {
+        Owners {
+            owners: [0; FINGERPRINTS],
+        }
+    }
+
+    // Entry i owns its fingerprint too. Whether its name is new: no entry before it has it.
+    pub fn insert<N: Names>(&mut self, names: &N, i: usize) -> bool
+        requires place { i < several }
+        requires names { (j : ℕ) → j ≤ i → N.is_there names.now j }
+        requires owned { AllOwned self.old (N.entry names.now) i }
+        ensures new { result ≡ not (name_held (N.entry names.now i).name (tabulate i (N.entry names.now))) }
+        ensures owned { AllOwned self.new (N.entry names.now) (i + 1) }
+    {
+        let f = fingerprint(names.name_at(i));
+        let owner = self.owners[f];
+        self.owners[f] = next_owner(owner, i);
+        !held_before(names, i, owner)
+    }
+}
+
+// Whether the names of all entries differ, each looked at once: none is held by an entry before it.
 fn names_differ(table: Table) -> bool
     requires { (table.count ≤ several) × Named table.count table.heads.now table.bytes.now }
     ensures { result ≡ names_differ (entries_of (memory_of table.entry)) }
@@ -199,8 +256,13 @@ fn names_differ(table: Table) -> bool
     if table.count < 2 {
         return true;
     }
-    let mut owners = [0u8; FINGERPRINTS];
-    all_differ(table, &mut owners)
+    let mut owners = Owners::new();
+    for i in 0..table.len() {
+        if !owners.insert(&table, i) {
+            return false;
+        }
+    }
+    true
 }
 
 // Whether a lent table is sound, with room for 64 entries.

@@ -167,7 +167,7 @@ const FRONT: usize = 8;
 
 // Whether a held name is equal. Most names differ in length or in their first bytes: those are compared at once, before the library is
 // asked about the whole.
-fn is_name(held: &[u8], name: &[u8]) -> bool
+pub fn is_name(held: &[u8], name: &[u8]) -> bool
     ensures { IsTrue result ↔ (held.now ≡ name.now) }
 {
     held.len() == name.len()
