@@ -13,7 +13,6 @@ use Rattle.value.specs.Fails.{ValueFailsAt}
 use Rattle.message.specs.Layout.{max_name_length, assignment_kind, update_kind, kind_size, assignment_name_start, id_behind_name, number_behind_name, assignment_fixed, update_number_start, update_value_start}
 use Rattle.message.specs.Reader.{id_allowed, parse_assignment, parse_update, parse_message, name_in, number_of, place_of}
 use Rattle.message.specs.declared.AllowedId.TheVariants.{Any}
-use Rattle.message.specs.declared.Decoded.TheVariants as D
 
 -- the IDs that a reader takes: an assignment's, and an update's with the type of its value
 pub record Ids : Type 0 where

@@ -7,15 +7,13 @@ ghost use Rattle.protocol.specs.Copy.{copy_fresh_start};
 use answer::Answer;
 
 // The empty copy: only the count is set.
+#[tactic(auto, unfolding(protocol::specs::Copy::copy_fresh_start, field::specs::Choice::pick))]
 pub fn copy_fresh(heads: &[u16], bytes: &[u8], count: &mut u16) -> Answer
     ensures answer { result ≡ bare_answer (copy_fresh_start max_entries (lent heads.now bytes.now count.old)).number }
     ensures memory { lent heads.now bytes.now count.new
         ≡ (copy_fresh_start max_entries (lent heads.now bytes.now count.old)).memory }
 {
-    if heads.len() < table::HEADS_SIZE {
-        return answer::unsound();
-    }
-    if bytes.len() < table::BYTES_SIZE {
+    if !crate::large_enough(heads, bytes) {
         return answer::unsound();
     }
     *count = 0;

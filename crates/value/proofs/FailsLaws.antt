@@ -6,7 +6,7 @@ use mathlib.Core.Logic.{◌≢◌}
 use mathlib.Core.List.{List}
 use Prim.Native.Nat.{ℕ, zero, suc, ◌+◌, ◌-◌, ◌*◌, ◌≤◌, ◌<◌}
 use native.Mathlib.Omega.{arith}
-use lib.Dec.{eqb}
+use lib.Dec.{eqb, leb}
 use lib.ListN.{length, drop, get_or, length-drop}
 use lib.Seq.{drop-drop, get_or-drop}
 use borrow.Author.Tests.{leb-true, leb-false, le-leb, lt-leb, eqb-true, eqb-false}
@@ -50,7 +50,7 @@ module _ (t : ℕ) (s : List ℕ) where
   unfolding From parse_double
   double_refuses start e =
       let here : start + 0 ≡ start = omega arith in
-      by_test (Refuses (From start)) _ _ _ (λ _. Refuses.taken)
+      by_test (Refuses (From start)) (leb 8 (length (drop start s))) _ _ (λ _. Refuses.taken)
       (λ cut. refuses_with (From start) 1 0 (rw here (ValueFailsAt.cut_double e (omega (arith, length-drop start s, leb-false 8 (length (drop start s)) cut)))))
 
   string_refuses : (start : ℕ) → ElementAt t s string start → Refuses (From start) (parse_text max_value_size start (drop start s))
