@@ -1,4 +1,0 @@
-use Rattle.answer.proofs.refused.Goals as goal
-
-pub returns : goal.returns
-returns c = rw (c.bare-a.ensures, c.reported_place.ensures)
