@@ -1,11 +1,12 @@
 // A table's heads as C lends them, and the same heads as flat numbers.
 #![tactic(auto)]
 
-ghost use Rattle.std.specs.Prelude.{◌≡◌, ◌+◌, ◌*◌, ◌<◌, ◌≤◌, length};
+ghost use Rattle.std.specs.Prelude.{◌≡◌, ◌+◌, ◌*◌, ◌<◌, ◌≤◌, ◌⊎◌, length};
+ghost use Rattle.field.specs.Choice.{pick};
 ghost use Rattle.table.specs.Table.{max_entries, head_size, number_field};
-ghost use Rattle.heads.specs.Heads.{head_numbers, changed, with_head, head_at, loaded, stored};
+ghost use Rattle.heads.specs.Heads.{head_numbers, with_head, head_at, loaded, stored, NotMade, Made, MadeToRead};
 
-use field::DONE;
+use answer::Answered;
 
 // One entry head.
 #[repr(C)]
@@ -45,7 +46,7 @@ fn head_at(flat: &[u16], i: usize) -> Head
 
 // The heads of a table become numbers.
 #[tactic(auto, using(crate::proofs::HeadLaws::loading), unfolding(crate::specs::Heads::loaded))]
-pub fn load(heads: &[Head], flat: &mut [u16])
+fn load(heads: &[Head], flat: &mut [u16])
     requires { (max_entries ≤ length heads.now) × (head_numbers ≤ length flat.old) }
     ensures { flat.new ≡ loaded max_entries heads.now flat.old }
 {
@@ -54,16 +55,46 @@ pub fn load(heads: &[Head], flat: &mut [u16])
     }
 }
 
-// The numbers become the heads of a table again, where the number is 0.
-#[tactic(auto, using(crate::proofs::HeadLaws::storing), unfolding(crate::specs::Heads::stored, crate::specs::Heads::changed, field::specs::Choice::pick))]
-pub fn store(number: u8, flat: &[u16], heads: &mut [Head])
+// The numbers become the heads of a table again, where a call may have changed them.
+#[tactic(auto, using(crate::proofs::HeadLaws::storing), unfolding(crate::specs::Heads::stored, field::specs::Choice::pick))]
+fn store(changes: bool, flat: &[u16], heads: &mut [Head])
     requires { (max_entries ≤ length heads.old) × (head_numbers ≤ length flat.now) }
-    ensures { heads.new ≡ stored (changed number) flat.now heads.old }
+    ensures { heads.new ≡ pick changes (stored max_entries flat.now heads.old) heads.old }
 {
-    if number != DONE {
+    if !changes {
         return;
     }
     for i in 0..table::MAX_ENTRIES {
         heads[i] = head_at(flat, i);
     }
+}
+
+// A call that may change heads, made on their numbers.
+pub fn change<R: Answered + Drop, F: FnMut(&mut [u16]) -> R>(heads: &mut [Head], call: &mut F) -> R
+    requires callable { (x : _) → length x.now ≡ head_numbers → F.pre call.old x }
+    ensures { NotMade R.on_unsound call.old heads.old result call.new heads.new
+        ⊎ Made F.FnMut R.changes_heads call.old heads.old result call.new heads.new }
+{
+    if heads.len() < table::MAX_ENTRIES {
+        return R::on_unsound();
+    }
+    let mut flat = [0u16; table::HEADS_SIZE];
+    load(heads, &mut flat);
+    let answer = call(&mut flat);
+    store(answer.changes_heads(), &flat, heads);
+    answer
+}
+
+// A call that only reads heads, made on their numbers.
+pub fn read<R: Answered + Drop, F: FnMut(&[u16]) -> R>(heads: &[Head], call: &mut F) -> R
+    requires callable { (x : _) → length x.now ≡ head_numbers → F.pre call.old x }
+    ensures { NotMade R.on_unsound call.old heads.now result call.new heads.now
+        ⊎ MadeToRead F.FnMut call.old heads.now result call.new }
+{
+    if heads.len() < table::MAX_ENTRIES {
+        return R::on_unsound();
+    }
+    let mut flat = [0u16; table::HEADS_SIZE];
+    load(heads, &mut flat);
+    call(&flat)
 }
