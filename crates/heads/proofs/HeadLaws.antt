@@ -5,11 +5,8 @@ use native.Mathlib.Nat.{not-suc-le-zero, eq-or-lt_of_le, le_of_suc-le-suc}
 use native.Mathlib.Numerals.{add-one}
 use native.Mathlib.Omega.{arith}
 use mathlib.Core.Logic.{◌⊎◌, inl, inr}
-use mathlib.Core.Bool.{Bool, true, false}
 use mathlib.Core.List.{List, [], ◌∷◌}
-use Rattle.std.proofs.Common.{rules}
-use Rattle.field.specs.Choice.{pick}
-use lib.ListN.{length, get_or, set, take, drop, length-set, length-take, length-drop}
+use lib.ListN.{length, get_or, set, take, drop, length-set, length-take, length-drop, length-replicate}
 use lib.Seq.{get_or-set_same, get_or-set_other, get_or-take, get_or-drop, ext_get_or}
 use Rattle.table.specs.Table.{max_entries}
 use Rattle.heads.specs.declared.Head.{Head}
@@ -115,11 +112,6 @@ stored_at (suc k) flat hs w i l = elim (split l) [
   | inr m ↦ get_or-set_other (stored k flat hs) k i (head_at flat k) no_head (λ e. omega arith) ∙ stored_at k flat hs (omega arith) i m
 ]
 
--- what `load` and `store` keep in their loops
-pub ruleset loading = (loaded_next, length_loaded)
-
-pub ruleset storing = (stored_next, length_stored)
-
 -- ---- the numbers are the heads'
 
 -- what holds of all four numbers of each head holds of each number
@@ -201,13 +193,28 @@ store_all hs f enough len =
     len
     (λ i l. flat_heads_at (stored max_entries f hs) i l ∙ stored_at max_entries f hs enough i l)
 
--- the heads as they are loaded are the numbers that a call is made on
-pub loaded_is : (hs : List Head) (xs flat : List ℕ) → flat ≡ loaded max_entries hs xs → max_entries ≤ length hs → length flat ≡ head_numbers → flat ≡ flat_heads hs
-loaded_is hs xs flat l enough len = l ∙ loaded_all hs xs enough (sym (length_loaded max_entries hs xs) ∙ sym (ap length l) ∙ len)
+-- ---- what `load` and `store` have made when their loops end
 
--- heads as a call leaves them, whose answer says whether it may have changed them
-pub stored_where : (t : Bool) (hs hs' : List Head) (f : List ℕ) → hs' ≡ pick t (stored max_entries f hs) hs → max_entries ≤ length hs → length f ≡ head_numbers
-    → (t ≡ true → flat_heads hs' ≡ f) × (t ≡ false → hs' ≡ hs) × (drop max_entries hs' ≡ drop max_entries hs)
-unfolding pick
-stored_where true hs hs' f e enough len = rw e (λ _. store_all hs f enough len, λ (n : true ≡ false). search (rules, n), store_rest hs enough f)
-stored_where false hs hs' f e enough len = rw e (λ (n : false ≡ true). search (rules, n), λ _. refl, refl)
+pub loaded_end : (i : ℕ) (hs : List Head) (xs flat : List ℕ) → flat ≡ loaded i hs xs
+    → i ≤ max_entries → max_entries ≤ i → max_entries ≤ length hs → length xs ≡ head_numbers → flat ≡ flat_heads hs
+loaded_end i hs xs flat l low high enough len =
+    let e : i ≡ max_entries = omega arith in
+    (rw e at l) ∙ loaded_all hs xs enough len
+
+pub stored_end : (i : ℕ) (hs hs' : List Head) (f : List ℕ) → hs' ≡ stored i f hs
+    → i ≤ max_entries → max_entries ≤ i → max_entries ≤ length hs → length f ≡ head_numbers → flat_heads hs' ≡ f
+stored_end i hs hs' f l low high enough len =
+    let e : i ≡ max_entries = omega arith in
+    let at_end : hs' ≡ stored max_entries f hs = rw e at l in
+    rw at_end (store_all hs f enough len)
+
+pub past_end : (i : ℕ) (hs hs' : List Head) (f : List ℕ) → hs' ≡ stored i f hs
+    → i ≤ max_entries → max_entries ≤ i → max_entries ≤ length hs → drop max_entries hs' ≡ drop max_entries hs
+past_end i hs hs' f l low high enough =
+    let e : i ≡ max_entries = omega arith in
+    let at_end : hs' ≡ stored max_entries f hs = rw e at l in
+    rw at_end (store_rest hs enough f)
+
+pub ruleset loading = (loaded_next, length_loaded, loaded_end, length-replicate)
+
+pub ruleset storing = (stored_next, length_stored, stored_end, past_end)

@@ -60,7 +60,8 @@ pub record NotMade {F R : Type 0} (unsound : R) (f : F) (hs : List Head) (r : R)
   pub same_heads : hs' ≡ hs
 
 -- the numbers that the call left are the heads', where its answer says that heads may have changed; otherwise heads are as they were
-pub record Made {F R : Type 0} (g : Mut F (MutBor (List ℕ) × Unit {0}) (R × (MutBor (List ℕ) × Unit {0}))) (changes : R → Bool) (f : F) (hs : List Head) (r : R) (f' : F) (hs' : List Head) : Type 0 where
+pub record Made {F R : Type 0} (g : Mut F (MutBor (List ℕ) × Unit {0}) (R × (MutBor (List ℕ) × Unit {0}))) (changes : R → Bool)
+    (f : F) (hs : List Head) (r : R) (f' : F) (hs' : List Head) : Type 0 where
   pub enough : max_entries ≤ length hs
   pub flat : List ℕ
   pub called : CalledAtMut g f (flat_heads hs) r f' flat
