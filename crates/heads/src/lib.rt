@@ -75,7 +75,7 @@ fn store(changes: bool, flat: &[u16], heads: &mut [Head])
     }
 }
 
-// A call that may change heads, made on their numbers. It is lent, since its caller then knows what the references that it holds have become.
+// A call that may change heads, made on their numbers. It is lent, so that its caller knows what the references that it holds then lend.
 pub fn change<R: Answered + Drop, F: FnMut(&mut [u16]) -> R>(heads: &mut [Head], call: &mut F) -> R
     requires callable { (x : _) → length x.now ≡ head_numbers → F.pre call.old x }
     ensures { NotMade R.on_unsound call.old heads.old result call.new heads.new
