@@ -1,8 +1,8 @@
 // What a call answers with.
 #![tactic(auto)]
 
-ghost use Rattle.std.specs.Prelude.{◌≡◌};
-ghost use Rattle.field.specs.Answer.{output_too_short, unsound};
+ghost use Rattle.std.specs.Prelude.{◌≡◌, Bool, eqb};
+ghost use Rattle.field.specs.Answer.{done, output_too_short, unsound};
 ghost use Rattle.answer.specs.Answers.{bare_answer, refused_answer, ignored_answer, done_answer, goes_on};
 
 use field::{DONE, Fault, IGNORED, Refusal};
@@ -19,6 +19,21 @@ pub struct Answer {
     pub place: usize,
 }
 
+// What a call on a table answers.
+pub trait Answered {
+    // the answer on memory that is unsound or too small
+    ghost on_unsound: { Self };
+
+    // whether heads may have changed
+    ghost changes_heads: { Self → Bool };
+
+    fn on_unsound() -> Self
+        ensures { result ≡ on_unsound };
+
+    fn changes_heads(&self) -> bool
+        ensures { result ≡ changes_heads self.now };
+}
+
 // The answer on memory that is unsound or too small: a number alone. All other answers are made of it.
 pub const ON_UNSOUND: Answer = Answer {
     number: Refusal::Unsound as u8,
@@ -27,6 +42,20 @@ pub const ON_UNSOUND: Answer = Answer {
     sent: 0,
     place: 0,
 };
+
+impl Answered for Answer {
+    ghost on_unsound = { bare_answer unsound };
+
+    ghost changes_heads = { λ a. eqb a.number done };
+
+    fn on_unsound() -> Answer {
+        ON_UNSOUND
+    }
+
+    fn changes_heads(&self) -> bool {
+        self.number == DONE
+    }
+}
 
 pub fn unsound() -> Answer
     ensures { result ≡ bare_answer unsound }

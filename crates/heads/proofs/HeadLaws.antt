@@ -4,15 +4,13 @@ use Prim.Native.Nat.{ℕ, zero, suc, ◌+◌, ◌*◌, ◌<◌, ◌≤◌}
 use native.Mathlib.Nat.{not-suc-le-zero, eq-or-lt_of_le, le_of_suc-le-suc}
 use native.Mathlib.Numerals.{add-one}
 use native.Mathlib.Omega.{arith}
-use mathlib.Core.Logic.{◌≢◌, ◌⊎◌, inl, inr}
+use mathlib.Core.Logic.{◌⊎◌, inl, inr}
 use mathlib.Core.List.{List, [], ◌∷◌}
-use lib.ListN.{length, get_or, set, take, drop, length-set, length-take, length-drop}
+use lib.ListN.{length, get_or, set, take, drop, length-set, length-take, length-drop, length-replicate}
 use lib.Seq.{get_or-set_same, get_or-set_other, get_or-take, get_or-drop, ext_get_or}
-use borrow.Author.Tests.{eqb-false}
-use Rattle.field.proofs.ChoiceLaws.{by_test}
 use Rattle.table.specs.Table.{max_entries}
 use Rattle.heads.specs.declared.Head.{Head}
-use Rattle.heads.specs.Heads.{head_numbers, numbers, flat_heads, changed, no_head, with_head, head_at, loaded, stored}
+use Rattle.heads.specs.Heads.{head_numbers, numbers, flat_heads, no_head, with_head, head_at, loaded, stored}
 
 pub length_loaded : (k : ℕ) (hs : List Head) (flat : List ℕ) → length (loaded k hs flat) ≡ length flat
 unfolding loaded
@@ -32,10 +30,6 @@ loaded_next i hs flat = rw (add-one i)
 pub stored_next : (i : ℕ) (flat : List ℕ) (hs : List Head) → set (stored i flat hs) i (head_at flat i) ≡ stored (i + 1) flat hs
 unfolding stored
 stored_next i flat hs = rw (add-one i)
-
-pub stored_none : (flat : List ℕ) (hs : List Head) → hs ≡ stored 0 flat hs
-unfolding stored
-stored_none flat hs = refl
 
 module _ (f : List ℕ) (i : ℕ) (h : Head) where
   abbrev f₁ : List ℕ
@@ -118,16 +112,6 @@ stored_at (suc k) flat hs w i l = elim (split l) [
   | inr m ↦ get_or-set_other (stored k flat hs) k i (head_at flat k) no_head (λ e. omega arith) ∙ stored_at k flat hs (omega arith) i m
 ]
 
--- the heads that a call may have changed
-pub changed_small : (number : ℕ) → changed number ≤ max_entries
-unfolding changed
-changed_small number = by_test (λ (k : ℕ). k ≤ max_entries) _ _ _ (λ _. omega arith) (λ _. omega arith)
-
--- what `load` and `store` keep in their loops
-pub ruleset loading = (loaded_next, length_loaded)
-
-pub ruleset storing = (stored_next, length_stored, changed_small)
-
 -- ---- the numbers are the heads'
 
 -- what holds of all four numbers of each head holds of each number
@@ -183,9 +167,9 @@ module _ (hs : List Head) (enough : max_entries ≤ length hs) where
   length_enough xs e = simp (length_numbers, length-take) (omega arith)
 
   -- a head past the first max_entries is as it was
-  pub store_rest : (f : List ℕ) (number : ℕ) → drop max_entries (stored (changed number) f hs) ≡ drop max_entries hs
-  store_rest f number = ext_get_or no_head (drop max_entries (stored (changed number) f hs)) (drop max_entries hs) (simp (length-drop, length_stored))
-      (λ i l. get_or-drop max_entries (stored (changed number) f hs) i no_head ∙ stored_past (changed number) f hs (max_entries + i) (omega (arith, changed_small number)) ∙ sym (get_or-drop max_entries hs i no_head))
+  pub store_rest : (f : List ℕ) → drop max_entries (stored max_entries f hs) ≡ drop max_entries hs
+  store_rest f = ext_get_or no_head (drop max_entries (stored max_entries f hs)) (drop max_entries hs) (simp (length-drop, length_stored))
+      (λ i l. get_or-drop max_entries (stored max_entries f hs) i no_head ∙ stored_past max_entries f hs (max_entries + i) (omega arith) ∙ sym (get_or-drop max_entries hs i no_head))
 
 -- the heads as they are loaded into any numbers, as many as a table has
 pub loaded_all : (hs : List Head) (xs : List ℕ) → max_entries ≤ length hs → length xs ≡ head_numbers → loaded max_entries hs xs ≡ flat_heads hs
@@ -198,19 +182,39 @@ loaded_all hs xs enough len =
     (length_enough hs enough hs refl)
     (λ i l. loaded_at max_entries hs xs (omega (arith, len)) i l ∙ sym (flat_heads_at hs i l))
 
--- storing what a call left of these numbers, where it left them as they were unless it is done
-module _ (hs : List Head) (f : List ℕ) (number : ℕ) (enough : max_entries ≤ length hs) (len : length f ≡ head_numbers) where
-  store_all : flat_heads (stored max_entries f hs) ≡ f
-  store_all =
-      same_heads
-      max_entries
-      (flat_heads (stored max_entries f hs))
-      f
-      (length_enough hs enough (stored max_entries f hs) (length_stored max_entries f hs))
-      len
-      (λ i l. flat_heads_at (stored max_entries f hs) i l ∙ stored_at max_entries f hs enough i l)
+-- the numbers that a call left, stored
+pub store_all : (hs : List Head) (f : List ℕ) → max_entries ≤ length hs → length f ≡ head_numbers → flat_heads (stored max_entries f hs) ≡ f
+store_all hs f enough len =
+    same_heads
+    max_entries
+    (flat_heads (stored max_entries f hs))
+    f
+    (length_enough hs enough (stored max_entries f hs) (length_stored max_entries f hs))
+    len
+    (λ i l. flat_heads_at (stored max_entries f hs) i l ∙ stored_at max_entries f hs enough i l)
 
-  pub stored_all : (number ≢ 0 → f ≡ flat_heads hs) → flat_heads (stored (changed number) f hs) ≡ f
-  unfolding changed
-  stored_all kept =
-      by_test (λ (k : ℕ). flat_heads (stored k f hs) ≡ f) _ _ _ (λ _. store_all) (λ ne. rw (← (stored_none f hs)) (sym (kept (eqb-false number 0 ne))))
+-- ---- what `load` and `store` have made when their loops end
+
+pub loaded_end : (i : ℕ) (hs : List Head) (xs flat : List ℕ) → flat ≡ loaded i hs xs
+    → i ≤ max_entries → max_entries ≤ i → max_entries ≤ length hs → length xs ≡ head_numbers → flat ≡ flat_heads hs
+loaded_end i hs xs flat l low high enough len =
+    let e : i ≡ max_entries = omega arith in
+    (rw e at l) ∙ loaded_all hs xs enough len
+
+pub stored_end : (i : ℕ) (hs hs' : List Head) (f : List ℕ) → hs' ≡ stored i f hs
+    → i ≤ max_entries → max_entries ≤ i → max_entries ≤ length hs → length f ≡ head_numbers → flat_heads hs' ≡ f
+stored_end i hs hs' f l low high enough len =
+    let e : i ≡ max_entries = omega arith in
+    let at_end : hs' ≡ stored max_entries f hs = rw e at l in
+    rw at_end (store_all hs f enough len)
+
+pub past_end : (i : ℕ) (hs hs' : List Head) (f : List ℕ) → hs' ≡ stored i f hs
+    → i ≤ max_entries → max_entries ≤ i → max_entries ≤ length hs → drop max_entries hs' ≡ drop max_entries hs
+past_end i hs hs' f l low high enough =
+    let e : i ≡ max_entries = omega arith in
+    let at_end : hs' ≡ stored max_entries f hs = rw e at l in
+    rw at_end (store_rest hs enough f)
+
+pub ruleset loading = (loaded_next, length_loaded, loaded_end, length-replicate)
+
+pub ruleset storing = (stored_next, length_stored, stored_end, past_end)

@@ -1,7 +1,7 @@
 -- Heads as flat numbers, four each: "A head has the lengths, type and number".
-use Rattle.std.specs.Prelude.{ℕ, zero, suc, ◌+◌, ◌*◌, List, [], ◌∷◌, eqb, get_or, set, take}
-use Rattle.field.specs.Answer.{done}
-use Rattle.field.specs.Choice.{pick}
+use Rattle.std.specs.Prelude.{ℕ, zero, suc, ◌+◌, ◌*◌, ◌<◌, ◌≤◌, ◌≡◌, Bool, true, false, List, [], ◌∷◌, get_or, set, take, drop, length}
+use Rattle.std.specs.Fn.{Mut, CalledAt, CalledAtMut}
+use Rattle.std.proofs.Common.{Bor, MutBor}
 use Rattle.table.specs.Table.{max_entries, head_size, value_length_field, type_field, number_field}
 use Rattle.heads.specs.declared.Head.{Head}
 
@@ -17,10 +17,6 @@ numbers (h ∷ hs) = h.name_length ∷ h.value_length ∷ h.type_code ∷ h.numb
 -- the numbers of the heads that a table has: "64 entry heads"
 unfoldable pub flat_heads : List Head → List ℕ
 flat_heads hs = numbers (take max_entries hs)
-
--- how many heads are made of the numbers: none unless the number is 0
-unfoldable pub changed : ℕ → ℕ
-changed number = pick (eqb number done) max_entries 0
 
 -- what is read where there is no head
 abbrev pub no_head : Head
@@ -53,3 +49,28 @@ loaded (suc k) hs flat = with_head (loaded k hs flat) k (get_or hs k no_head)
 unfoldable pub stored : ℕ → List ℕ → List Head → List Head
 stored zero flat hs = hs
 stored (suc k) flat hs = set (stored k flat hs) k (head_at flat k)
+
+-- ---- a call made on the numbers of a table's heads: by f, which then is f', it answers r, and heads hs become hs'
+
+-- too few heads: no call is made
+pub record NotMade {F R : Type 0} (unsound : R) (f : F) (hs : List Head) (r : R) (f' : F) (hs' : List Head) : Type 0 where
+  pub few : length hs < max_entries
+  pub unsound_answered : r ≡ unsound
+  pub same_call : f' ≡ f
+  pub same_heads : hs' ≡ hs
+
+-- the numbers that the call left are the heads', where its answer says that heads may have changed; otherwise heads are as they were
+pub record Made {F R : Type 0} (g : Mut F (MutBor (List ℕ) × Unit {0}) (R × (MutBor (List ℕ) × Unit {0}))) (changes : R → Bool)
+    (f : F) (hs : List Head) (r : R) (f' : F) (hs' : List Head) : Type 0 where
+  pub enough : max_entries ≤ length hs
+  pub flat : List ℕ
+  pub called : CalledAtMut g f (flat_heads hs) r f' flat
+  pub numbers : length flat ≡ head_numbers
+  pub changed : changes r ≡ true → flat_heads hs' ≡ flat
+  pub unchanged : changes r ≡ false → hs' ≡ hs
+  pub past : drop max_entries hs' ≡ drop max_entries hs
+
+-- a call that only reads heads
+pub record MadeToRead {F R : Type 0} (g : Mut F (Bor (List ℕ) × Unit {0}) R) (f : F) (hs : List Head) (r : R) (f' : F) : Type 0 where
+  pub enough : max_entries ≤ length hs
+  pub called : CalledAt g f (flat_heads hs) r f'

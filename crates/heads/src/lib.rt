@@ -1,11 +1,11 @@
-// A table's heads as C lends them, and the same heads as flat numbers.
+// A table's heads as C lends them, and calls on them, made on the same heads as flat numbers.
 #![tactic(auto)]
 
-ghost use Rattle.std.specs.Prelude.{◌≡◌, ◌+◌, ◌*◌, ◌<◌, ◌≤◌, length};
+ghost use Rattle.std.specs.Prelude.{◌≡◌, IfSome, IfNone, ◌+◌, ◌*◌, ◌<◌, ◌≤◌, ◌⊎◌, true, false, drop, length};
 ghost use Rattle.table.specs.Table.{max_entries, head_size, number_field};
-ghost use Rattle.heads.specs.Heads.{head_numbers, changed, with_head, head_at, loaded, stored};
+ghost use Rattle.heads.specs.Heads.{head_numbers, flat_heads, with_head, head_at, NotMade, Made, MadeToRead};
 
-use field::DONE;
+use answer::Answered;
 
 // One entry head.
 #[repr(C)]
@@ -43,27 +43,60 @@ fn head_at(flat: &[u16], i: usize) -> Head
     }
 }
 
-// The heads of a table become numbers.
+// The heads of a table become numbers, if there are enough.
 #[tactic(auto, using(crate::proofs::HeadLaws::loading), unfolding(crate::specs::Heads::loaded))]
-pub fn load(heads: &[Head], flat: &mut [u16])
-    requires { (max_entries ≤ length heads.now) × (head_numbers ≤ length flat.old) }
-    ensures { flat.new ≡ loaded max_entries heads.now flat.old }
+fn load(heads: &[Head]) -> Option<[u16; table::HEADS_SIZE]>
+    ensures some { IfSome result (λ flat. (max_entries ≤ length heads.now) × (flat ≡ flat_heads heads.now)) }
+    ensures none { IfNone result (length heads.now < max_entries) }
 {
-    for i in 0..table::MAX_ENTRIES {
-        put_head(flat, i, heads[i]);
+    if heads.len() < table::MAX_ENTRIES {
+        return None;
     }
+    let mut flat = [0u16; table::HEADS_SIZE];
+    for i in 0..table::MAX_ENTRIES {
+        put_head(&mut flat, i, heads[i]);
+    }
+    Some(flat)
 }
 
-// The numbers become the heads of a table again, where the number is 0.
-#[tactic(auto, using(crate::proofs::HeadLaws::storing), unfolding(crate::specs::Heads::stored, crate::specs::Heads::changed, field::specs::Choice::pick))]
-pub fn store(number: u8, flat: &[u16], heads: &mut [Head])
-    requires { (max_entries ≤ length heads.old) × (head_numbers ≤ length flat.now) }
-    ensures { heads.new ≡ stored (changed number) flat.now heads.old }
+// The numbers become the heads of a table again, where a call may have changed them.
+#[tactic(auto, using(crate::proofs::HeadLaws::storing), unfolding(crate::specs::Heads::stored))]
+fn store(changes: bool, flat: &[u16], heads: &mut [Head])
+    requires { (max_entries ≤ length heads.old) × (length flat.now ≡ head_numbers) }
+    ensures changed { changes ≡ true → flat_heads heads.new ≡ flat.now }
+    ensures unchanged { changes ≡ false → heads.new ≡ heads.old }
+    ensures past { drop max_entries heads.new ≡ drop max_entries heads.old }
 {
-    if number != DONE {
+    if !changes {
         return;
     }
     for i in 0..table::MAX_ENTRIES {
         heads[i] = head_at(flat, i);
     }
+}
+
+// A call that may change heads, made on their numbers. It is lent, so that its caller knows what the references that it holds then lend.
+pub fn change<R: Answered + Drop, F: FnMut(&mut [u16]) -> R>(heads: &mut [Head], call: &mut F) -> R
+    requires callable { (x : _) → length x.now ≡ head_numbers → F.pre call.old x }
+    ensures { NotMade R.on_unsound call.old heads.old result call.new heads.new
+        ⊎ Made F.FnMut R.changes_heads call.old heads.old result call.new heads.new }
+{
+    let Some(mut flat) = load(heads) else {
+        return R::on_unsound();
+    };
+    let answer = call(&mut flat);
+    store(answer.changes_heads(), &flat, heads);
+    answer
+}
+
+// A call that only reads heads, made on their numbers.
+pub fn read<R: Answered + Drop, F: FnMut(&[u16]) -> R>(heads: &[Head], call: &mut F) -> R
+    requires callable { (x : _) → length x.now ≡ head_numbers → F.pre call.old x }
+    ensures { NotMade R.on_unsound call.old heads.now result call.new heads.now
+        ⊎ MadeToRead F.FnMut call.old heads.now result call.new }
+{
+    let Some(flat) = load(heads) else {
+        return R::on_unsound();
+    };
+    call(&flat)
 }
