@@ -6,6 +6,7 @@ ghost use Rattle.table.specs.Names.{entry_named};
 ghost use Rattle.table.specs.Table.{head_size, name_length_field, value_length_field, type_field, number_field};
 ghost use Rattle.table.specs.Table.{head_field, HasHead, HasName, HasValue, entry_of};
 ghost use Rattle.table.specs.Table.{Holds, Named, Readable, entries_of, parse_held_update};
+ghost use Rattle.table.specs.Table.{lent, max_entries, store_entry};
 ghost use Rattle.table.specs.Table.{heads_with_entry, bytes_with_entry, heads_with_value, bytes_with_value};
 ghost use Rattle.table.specs.Memory.{memory_of};
 ghost use Rattle.message.specs.Layout.{max_name_length};
@@ -206,4 +207,16 @@ pub fn store_value(heads: &mut [u16], bytes: &mut [u8], id: usize, number: u16, 
     heads[head + VALUE_LENGTH] = value.len() as u16;
     heads[head + NUMBER] = number;
     field::copy_into(bytes, ENTRY_SIZE * id + NAME_SIZE, value);
+}
+
+// Stores a new entry with the next ID.
+#[tactic(auto, unfolding(crate::specs::Table::store_entry))]
+pub fn add_entry(heads: &mut [u16], bytes: &mut [u8], count: &mut u16, entry: LentEntry)
+    requires memory { (count.old + 1 ≤ max_entries) × Holds (count.old + 1) heads.old bytes.old }
+    requires lengths { (length entry.name.now ≤ max_name_length) × (length entry.value.now ≤ max_value_size) }
+    ensures { lent heads.new bytes.new count.new
+        ≡ store_entry (lent heads.old bytes.old count.old) (entry_lent entry.entry) }
+{
+    store_entry(heads, bytes, usize::from(*count), entry);
+    *count += 1;
 }
