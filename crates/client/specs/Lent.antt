@@ -1,5 +1,5 @@
 -- The code's answers, decisions and lent slices, as the definitions have them.
-use Rattle.std.specs.Prelude.{ℕ, ◌≤◌, ◌<◌, List, ◌≡◌, length}
+use Rattle.std.specs.Prelude.{ℕ, ◌≤◌, ◌<◌, List, ◌≡◌, length, Result, Ok, Err}
 use Rattle.field.specs.Answer.{done, ignored}
 use Rattle.field.specs.Place.{reported_place, WithPlace}
 use Rattle.field.specs.declared.Fault.{Fault}
@@ -31,23 +31,32 @@ ignored_copied taken revision = record { number = ignored; revision = revision; 
 abbrev pub stored_copied : (taken : ℕ) → Copied
 stored_copied taken = record { number = done; revision = 0; taken = taken; place = 0 }
 
--- the decision on a message m
-abbrev pub copy_verdict_of : List ℕ → CopyDecision → CopyVerdict
-copy_verdict_of m (D.Refuse fault) = refuse fault
-copy_verdict_of m (D.Ignore revision taken) = ignore taken revision
-copy_verdict_of m (D.StoreNew type number name_length value_length) =
-    store_new (entry_in name_length type number value_length m) (assignment_length name_length value_length)
-copy_verdict_of m (D.StoreUpdate id number value_length) = store_update id number (update_value_in value_length m) (update_length value_length)
+-- what a message comes to: a refusal, or what is done with it
+abbrev pub CopyJudged : Type 0
+CopyJudged = Result CopyDecision Fault
+
+-- the verdict on a message m
+abbrev pub copy_verdict_of : List ℕ → CopyJudged → CopyVerdict
+copy_verdict_of m (Err fault) = refuse fault
+copy_verdict_of m (Ok (D.Ignore revision taken)) = ignore taken revision
+copy_verdict_of m (Ok (D.StoreNew new)) =
+    store_new (entry_in new.name_length new.type_code new.number new.value_length m) (assignment_length new.name_length new.value_length)
+copy_verdict_of m (Ok (D.StoreUpdate update)) =
+    store_update update.id update.number (update_value_in update.value_length m) (update_length update.value_length)
 
 -- what performing relies on: name and value are in the message, and a copy of so many entries has the place
-abbrev pub Copyable : (count : ℕ) → List ℕ → CopyDecision → Type 0
-Copyable count m (D.Refuse fault) = Unit {0}
-Copyable count m (D.Ignore revision taken) = Unit {0}
-Copyable count m (D.StoreNew type number name_length value_length) =
-    (count < max_entries) × (assignment_length name_length value_length ≤ length m) × (name_length ≤ max_name_length) × (value_length ≤ max_value_size)
-Copyable count m (D.StoreUpdate id number value_length) = (id < count) × (update_length value_length ≤ length m) × (value_length ≤ max_value_size)
+abbrev pub Copyable : (count : ℕ) → List ℕ → CopyJudged → Type 0
+Copyable count m (Err fault) = Unit {0}
+Copyable count m (Ok (D.Ignore revision taken)) = Unit {0}
+Copyable count m (Ok (D.StoreNew new)) =
+    (count < max_entries)
+    × (assignment_length new.name_length new.value_length ≤ length m)
+    × (new.name_length ≤ max_name_length)
+    × (new.value_length ≤ max_value_size)
+Copyable count m (Ok (D.StoreUpdate update)) =
+    (update.id < count) × (update_length update.value_length ≤ length m) × (update.value_length ≤ max_value_size)
 
--- the decision is this verdict, and can be performed
-pub record DecidesCopy (count : ℕ) (m : List ℕ) (d : CopyDecision) (v : CopyVerdict) : Type 0 where
+-- the message is judged with this verdict, which can be performed
+pub record DecidesCopy (count : ℕ) (m : List ℕ) (d : CopyJudged) (v : CopyVerdict) : Type 0 where
   pub verdict : copy_verdict_of m d ≡ v
   pub copyable : Copyable count m d
