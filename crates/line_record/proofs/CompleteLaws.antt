@@ -1,6 +1,5 @@
 -- A call that answers 1: a client's message is short, and a local call whose value is whole never does.
 use Rattle.std.specs.Prelude.{Ok, Err}
-use Rattle.message.specs.Read.{AssignmentRead, UpdateRead}
 use mathlib.Core.Path.{◌≡◌}
 use mathlib.Core.Logic.{◌≢◌}
 use mathlib.Core.Bool.{Bool, false}
@@ -18,6 +17,7 @@ use Rattle.field.proofs.ChoiceLaws.{by_test}
 use Rattle.value.specs.Value.{IsValue}
 use Rattle.value.proofs.ValueLaws.{lone_taken}
 use Rattle.message.specs.Layout.{Entry, max_name_length, kind_size, revision_length}
+use Rattle.message.specs.Read.{AssignmentRead, UpdateRead}
 use Rattle.writer.specs.Writer.{check_name}
 use Rattle.table.specs.Names.{name_held}
 use Rattle.table.specs.Table.{entries_of, default_entry}

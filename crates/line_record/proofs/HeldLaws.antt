@@ -1,6 +1,5 @@
 -- Laws of held bytes: what a message that goes on takes, that one that is held is short, and that memory stays sound.
 use Rattle.std.specs.Prelude.{Ok, Err}
-use Rattle.message.specs.Read.{AssignmentRead, UpdateRead}
 use mathlib.Core.Path.{◌≡◌, refl}
 use mathlib.Core.Logic.{◌≢◌, ◌⊎◌, inl, inr}
 use mathlib.Core.Bool.{Bool, true, false, ◌||◌, false≢true}
@@ -14,6 +13,7 @@ use Rattle.field.specs.Answer.{done, ignored, incomplete, unknown_kind, RefusalN
 use Rattle.field.proofs.ChoiceLaws.{by_test, pick_true}
 use Rattle.answer.specs.Answers.{goes_on}
 use Rattle.message.specs.Layout.{kind_size}
+use Rattle.message.specs.Read.{AssignmentRead, UpdateRead}
 use Rattle.message.specs.Reader.{id_allowed, name_in, value_in, update_value_in, assignment_length, update_length}
 use Rattle.message.specs.declared.AllowedId.TheVariants.{Only}
 use Rattle.message.proofs.RefusalLaws.{refusal_number, AssignmentRefused, assignment_rightly, UpdateRefused, update_rightly}

@@ -1,5 +1,4 @@
 -- Whose mark a call changes: that of no other connection.
-use Rattle.message.specs.Read.{AssignmentRead, UpdateRead}
 use Rattle.std.specs.Prelude.{Err, Ok}
 use mathlib.Core.Path.{◌≡◌, refl, ◌∙◌}
 use mathlib.Core.Logic.{◌≢◌}
@@ -14,6 +13,7 @@ use Rattle.field.specs.declared.Fault.{Fault}
 use Rattle.field.proofs.ChoiceLaws.{by_test}
 use Rattle.value.specs.Value.{parse_lone}
 use Rattle.message.specs.Layout.{Entry}
+use Rattle.message.specs.Read.{AssignmentRead, UpdateRead}
 use Rattle.message.specs.Reader.{id_allowed, parse_assignment}
 use Rattle.message.specs.declared.AllowedId.TheVariants.{Only}
 use Rattle.writer.specs.Writer.{check_name}

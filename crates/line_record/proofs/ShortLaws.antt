@@ -1,5 +1,4 @@
 -- Bytes whose reading ends with 1 are few: an assignment or an update of more is read whole, or refused by another number.
-use Rattle.message.specs.Read.{AssignmentRead, UpdateRead, an_assignment, an_update}
 use Rattle.std.specs.Prelude.{Err, Ok}
 use mathlib.Core.Path.{◌≡◌}
 use mathlib.Core.Bool.{Bool, true, false}
@@ -19,6 +18,7 @@ use Rattle.text.specs.Text.{prefix_size, parse_text}
 use Rattle.value.specs.Value.{max_value_size, boolean_size, double_size, count_size, array_of, boolean, double, parse_boolean, parse_double, parse_element, count_fits, elements, parse_array, parse_value}
 use Rattle.reader.specs.Reader.{parse_text_at, parse_value_at}
 use Rattle.message.specs.Layout.{max_name_length, kind_size, id_behind_name, number_behind_name, value_behind_name, assignment_name_start, update_number_start, update_value_start}
+use Rattle.message.specs.Read.{AssignmentRead, UpdateRead, an_assignment, an_update}
 use Rattle.message.specs.Reader.{parse_behind_id, parse_after_name, parse_assignment, parse_behind_update_id, parse_update}
 use Rattle.line_record.specs.Held.{longest_incomplete}
 

@@ -1,10 +1,10 @@
 -- "Connection 16 is the plant's own code": what its bytes ask for.
-use Rattle.message.specs.Read.{AssignmentRead, UpdateRead}
 use Rattle.std.specs.Prelude.{ℕ, List, get_or, eqb, Ok, Err}
 use Rattle.field.specs.Answer.{incomplete, unknown_kind, wrong_id}
 use Rattle.field.specs.Choice.{pick}
 use Rattle.field.specs.Field.{demand_bytes}
 use Rattle.message.specs.Layout.{Entry, kind_size, assignment_kind, update_kind}
+use Rattle.message.specs.Read.{AssignmentRead, UpdateRead}
 use Rattle.message.specs.Reader.{id_allowed, parse_assignment, name_in, value_in, update_value_in, assignment_length, update_length}
 use Rattle.message.specs.declared.AllowedId.TheVariants.{Only}
 use Rattle.table.specs.Table.{parse_held_update}

@@ -1,5 +1,4 @@
 -- What is true at the place that a message is refused with.
-use Rattle.message.specs.Read.{AssignmentRead, UpdateRead, an_assignment, an_update, Reading}
 use Rattle.std.specs.Prelude.{Err, Ok}
 use mathlib.Core.Path.{◌≡◌, refl, sym, ◌∙◌}
 use mathlib.Core.Bool.{Bool, true, false, false≢true}
@@ -30,6 +29,7 @@ use Rattle.value.proofs.ValueLaws.{value_unknown}
 use Rattle.value.proofs.FailsLaws.{value_refuses, value_of_known, value_within, value_failing}
 use Rattle.reader.specs.Reader.{parse_text_at, parse_value_at}
 use Rattle.message.specs.Layout.{assignment_kind, update_kind}
+use Rattle.message.specs.Read.{AssignmentRead, UpdateRead, an_assignment, an_update, Reading}
 use Rattle.message.specs.Reader.{id_allowed, parse_behind_id, parse_after_name, parse_assignment, parse_behind_update_id, parse_update, parse_revision, of_assignment, type_given, of_update, parse_by_kind, parse_message, number_of, place_of}
 use Rattle.places.specs.MessageFails.{name_length_in, type_start, value_start, assignment_id_in, update_id_in, NameStands, TypeStands, AssignmentFailsAt, AssignmentFails, AssignmentFailing, UpdateFailsAt, UpdateFails, UpdateFailing, MessageFailsAt, PlaceInMessage, ReadingFailsAt, ReadingTells}
 use Rattle.message.specs.declared.AllowedId.TheVariants.{Any}

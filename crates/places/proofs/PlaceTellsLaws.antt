@@ -1,6 +1,5 @@
 -- What is true at the place that a call of either half tells.
 use Rattle.std.specs.Prelude.{Ok, Err}
-use Rattle.message.specs.Read.{AssignmentRead, UpdateRead}
 use mathlib.Core.Path.{◌≡◌, refl, sym, ◌∙◌}
 use mathlib.Core.Bool.{Bool, true, false, and-eq-true_iff, false≢true}
 use mathlib.Core.List.{List}
@@ -18,6 +17,7 @@ use Rattle.field.proofs.PlaceLaws.{told, untold}
 use Rattle.value.specs.Value.{known_type}
 use Rattle.value.proofs.ValueLaws.{value_known}
 use Rattle.message.specs.Layout.{Entry, assignment_kind, update_kind}
+use Rattle.message.specs.Read.{AssignmentRead, UpdateRead}
 use Rattle.places.specs.MessageFails.{MessageFailsAt}
 use Rattle.message.specs.Reader.{id_allowed}
 use Rattle.message.specs.declared.AllowedId.TheVariants.{Only}

@@ -1,6 +1,5 @@
 -- The call itself gives the number, and tells the place, that go with the reason.
 use Rattle.std.specs.Prelude.{Ok, Err}
-use Rattle.message.specs.Read.{AssignmentRead, UpdateRead}
 use mathlib.Core.Path.{◌≡◌, refl, sym, ap, ◌∙◌}
 use mathlib.Core.Bool.{Bool, true, false, false≢true, not, ◌&&◌, and-eq-true_iff}
 use mathlib.Core.List.{List}
@@ -15,6 +14,7 @@ use Rattle.field.specs.declared.Fault.{Fault}
 use Rattle.field.proofs.ChoiceLaws.{by_test, pick_true, pick_false}
 use Rattle.sequence.specs.SequenceNumber.{half, distance, passed_by}
 use Rattle.message.specs.Layout.{Entry, keep_alive_kind, assignment_kind, update_kind}
+use Rattle.message.specs.Read.{AssignmentRead, UpdateRead}
 use Rattle.message.specs.Reader.{name_in}
 use Rattle.message.proofs.TakenLaws.{UpdateIs, update_is}
 use Rattle.table.specs.Names.{name_held}

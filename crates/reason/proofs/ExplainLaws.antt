@@ -1,5 +1,4 @@
 -- The first check that fails is what the verdict on the message says.
-use Rattle.message.specs.Read.{AssignmentRead, UpdateRead, an_assignment, an_update}
 use Rattle.std.specs.Prelude.{Ok, Err}
 use mathlib.Core.Path.{◌≡◌, refl, sym, ap, ◌∙◌}
 use mathlib.Core.Bool.{Bool, true, false, not, ◌&&◌, and-eq-true_iff}
@@ -18,6 +17,7 @@ use Rattle.sequence.specs.SequenceNumber.{distance, passed_by}
 use Rattle.text.specs.Text.{parse_text}
 use Rattle.value.specs.Value.{known_type, parse_value}
 use Rattle.message.specs.Layout.{Entry, keep_alive_kind, hello_kind, assignment_kind, update_kind}
+use Rattle.message.specs.Read.{AssignmentRead, UpdateRead, an_assignment, an_update}
 use Rattle.message.specs.Reader.{id_allowed, name_in, parse_behind_id, parse_after_name, parse_assignment, parse_behind_update_id, parse_update}
 use Rattle.message.specs.declared.AllowedId.TheVariants.{Only}
 use Rattle.reader.specs.Reader.{parse_text_at, parse_value_at}

@@ -1,6 +1,5 @@
 -- The reason named is true of the message.
 use Rattle.std.specs.Prelude.{Ok, Err}
-use Rattle.message.specs.Read.{AssignmentRead, UpdateRead}
 use mathlib.Core.Path.{◌≡◌, refl, sym, subst, ◌∙◌}
 use mathlib.Core.Logic.{◌≢◌}
 use mathlib.Core.Bool.{Bool, true, false, false≢true, ◌&&◌, and-eq-true_iff}
@@ -16,6 +15,7 @@ use Rattle.field.proofs.ChoiceLaws.{by_test}
 use Rattle.field.proofs.EqualLaws.{bytes_equal_true}
 use Rattle.sequence.specs.SequenceNumber.{half, distance, passed_by}
 use Rattle.message.specs.Layout.{Entry, hello, assignment, keep_alive_kind, hello_kind, assignment_kind, update_kind, layout}
+use Rattle.message.specs.Read.{AssignmentRead, UpdateRead}
 use Rattle.message.specs.Reader.{id_allowed, name_in, entry_in, update_value_in, Bytes, BeginsWith}
 use Rattle.message.specs.declared.AllowedId.TheVariants.{Only}
 use Rattle.message.proofs.FirstLaws.{AssignmentFirst, assignment_first, UpdateFirst, update_first}

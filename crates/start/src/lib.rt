@@ -32,6 +32,7 @@ fn close_all(marks: &mut [u8])
 }
 
 // Memory for a fresh start: the count becomes 0, and all connections are closed.
+// Stays: the parts apart, and no `Memory`, since heads and bytes are only measured, so they are lent to be read.
 #[tactic(auto, unfolding(protocol::specs::Step::fresh_start, field::specs::Choice::pick))]
 pub fn fresh(heads: &[u16], bytes: &[u8], count: &mut u16, marks: &mut [u8]) -> Answer
     ensures answer { result ≡ bare_answer (fresh_start max_entries (lent_server heads.now bytes.now count.old marks.old)).number }
