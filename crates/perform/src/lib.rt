@@ -1,42 +1,38 @@
 // What a verdict on a client's message does: the answer, the output, and lent memory afterwards.
 #![tactic(auto)]
 
-ghost use Rattle.std.specs.Prelude.{◌≡◌, true, ◌+◌, ◌≤◌, ◌<◌, length};
-ghost use Rattle.table.specs.Table.{TableMemory, lent, max_entries};
+ghost use Rattle.std.specs.Prelude.{◌≡◌, true, ◌≤◌, ◌<◌, length};
+ghost use Rattle.table.specs.Table.{TableMemory, max_entries};
+ghost use Rattle.recipients.specs.Recipients.{greeted_but, recipient_set};
 ghost use Rattle.soundness.specs.Sound.{sound_table, connections};
 ghost use Rattle.protocol.specs.Judge.{accept_hello, unsupported_revision};
+ghost use Rattle.protocol.specs.Memory.{SameMemory, server_of};
 ghost use Rattle.protocol.specs.Place.{execute_with_place};
-ghost use Rattle.protocol.specs.Lent.{beside_marks, lent_server, answered};
+ghost use Rattle.protocol.specs.Lent.{beside_marks, answered};
 ghost use Rattle.judge.specs.Decision.{verdict_of, Performable};
 
 use answer::Answer;
+use field::Fault;
 use judge::Decision;
-use message::{ASSIGNMENT_FIXED, ASSIGNMENT_NAME_START, REVISION_LENGTH, UPDATE_VALUE_START};
+use message::{Kind, REVISION_LENGTH};
+use protocol::Memory;
 
 // ---- hellos
 
 // A hello for 2.0: all entries to the sender, who is then greeted.
-fn greet(
-    heads: &[u16],
-    bytes: &[u8],
-    count: u16,
-    marks: &mut [u8],
-    c: usize,
-    out: &mut [u8],
-) -> Answer
-    requires sound { (c < connections) × (sound_table max_entries (lent heads.now bytes.now count) ≡ true) }
-    requires marks { connections ≤ length marks.old }
-    ensures { answered result (lent_server heads.now bytes.now count marks.new) out.new
-        ≡ execute_with_place (lent_server heads.now bytes.now count marks.old) out.old (accept_hello c) }
+fn greet(memory: &mut Memory, c: usize, out: &mut [u8]) -> Answer
+    requires sound { (c < connections) × (sound_table max_entries (server_of memory.old).table ≡ true) }
+    requires marks { connections ≤ length memory.old.marks.now }
+    ensures same { SameMemory memory.old memory.new }
+    ensures done { answered result (server_of memory.new) out.new
+        ≡ execute_with_place (server_of memory.old) out.old (accept_hello c) }
 {
-    let length = hello::hello_length(heads, bytes, count);
-    if out.len() < length {
+    if out.len() < hello::hello_length(memory.table()) {
         return answer::no_room();
     }
-    let recipients = recipients::only_sender(marks, c);
-    let sent = hello::write_hello(heads, bytes, count, out);
-    marks[c] = soundness::GREETED;
-    answer::done(recipients, REVISION_LENGTH, sent)
+    let sent = hello::write_hello(memory.table(), out);
+    memory.marks[c] = soundness::GREETED;
+    answer::done(recipients::only_sender(c), REVISION_LENGTH, sent)
 }
 
 // A hello for another revision: the sender is told which one is spoken, and closed.
@@ -49,62 +45,72 @@ fn turn_away(marks: &mut [u8], c: usize, out: &mut [u8]) -> Answer
     if out.len() < REVISION_LENGTH {
         return answer::no_room();
     }
-    let recipients = recipients::only_sender(marks, c);
-    let sent = encoder::write_revision(out, message::UNSUPPORTED, judge::REVISION);
+    let sent = encoder::write_revision(out, Kind::Unsupported, judge::REVISION);
     marks[c] = soundness::CLOSED;
-    answer::done(recipients, REVISION_LENGTH, sent)
+    answer::done(recipients::only_sender(c), REVISION_LENGTH, sent)
 }
 
 // ---- a client's message
 
-// A decision on a message m of connection c.
+// All greeted connections but one, or all.
+fn greeted_but(memory: &Memory, left_out: Option<usize>) -> u16
+    requires { connections ≤ length memory.now.marks.now }
+    ensures { result ≡ recipient_set (greeted_but left_out) (server_of memory.now).marks }
+{
+    recipients::greeted_but(memory.marks, left_out)
+}
+
+// A verdict on a message m of connection c.
+#[tactic(auto, using(crate::proofs::PerformLaws::refused_performed, crate::proofs::PerformLaws::ignored_performed))]
 pub fn perform(
-    heads: &mut [u16],
-    bytes: &mut [u8],
-    count: &mut u16,
-    marks: &mut [u8],
+    memory: &mut Memory,
     c: usize,
     m: &[u8],
-    decision: Decision,
+    decision: Result<Decision, Fault>,
     out: &mut [u8],
 ) -> Answer
-    requires sound { sound_table max_entries (lent heads.old bytes.old count.old) ≡ true }
-    requires marks { connections ≤ length marks.old }
-    requires performable { Performable count.old c m.now decision }
-    ensures { answered result (lent_server heads.new bytes.new count.new marks.new) out.new
-        ≡ execute_with_place (lent_server heads.old bytes.old count.old marks.old) out.old
-        (verdict_of c m.now decision) }
+    requires sound { sound_table max_entries (server_of memory.old).table ≡ true }
+    requires marks { connections ≤ length memory.old.marks.now }
+    requires performable { Performable memory.old.count.now c m.now decision }
+    ensures same { SameMemory memory.old memory.new }
+    ensures done { answered result (server_of memory.new) out.new
+        ≡ execute_with_place (server_of memory.old) out.old (verdict_of c m.now decision) }
 {
     match decision {
-        Decision::Refuse(fault) => answer::refused(fault),
-        Decision::Ignore(taken) => answer::ignored(taken),
-        Decision::AcceptHello => greet(heads, bytes, *count, marks, c, out),
-        Decision::UnsupportedRevision => turn_away(marks, c, out),
-        Decision::StoreNew {
-            type_code,
-            name_length,
-            value_length,
-        } => {
-            let name_end = ASSIGNMENT_NAME_START + name_length;
-            let value_at = ASSIGNMENT_FIXED + name_length;
-            let taken = value_at + value_length;
-            let name = &m[ASSIGNMENT_NAME_START..name_end];
-            let value = &m[value_at..taken];
+        Err(fault) => answer::refused(fault),
+        Ok(Decision::Ignore(taken)) => answer::ignored(taken),
+        Ok(Decision::AcceptHello) => greet(memory, c, out),
+        Ok(Decision::UnsupportedRevision) => turn_away(memory.marks, c, out),
+        Ok(Decision::StoreNew(assignment)) => {
+            let entry = store::new_entry(
+                assignment.name(m),
+                assignment.type_code,
+                assignment.value(m),
+            );
             // the sender is not left out
-            let recipients = recipients::other_greeted(marks, recipients::NO_ONE);
+            let recipients = greeted_but(memory, None);
             store::store_new(
-                heads, bytes, count, name, type_code, value, taken, recipients, out,
+                memory.heads,
+                memory.bytes,
+                memory.count,
+                entry,
+                assignment.size(),
+                recipients,
+                out,
             )
         }
-        Decision::StoreUpdate {
-            id,
-            number,
-            value_length,
-        } => {
-            let taken = UPDATE_VALUE_START + value_length;
-            let value = &m[UPDATE_VALUE_START..taken];
-            let recipients = recipients::other_greeted(marks, c);
-            store::store_update(heads, bytes, id, number, value, taken, recipients, out)
+        Ok(Decision::StoreUpdate(update)) => {
+            let recipients = greeted_but(memory, Some(c));
+            store::store_update(
+                memory.heads,
+                memory.bytes,
+                update.id,
+                update.number,
+                update.value(m),
+                update.size(),
+                recipients,
+                out,
+            )
         }
     }
 }

@@ -1,11 +1,11 @@
 -- `turn_away` does what the verdict on another revision does.
-use native.Mathlib.Omega.{arith}
-use lib.ListN.{length}
-use borrow.Author.Tests.{lt-leb, le-leb}
+use Rattle.std.proofs.Common.{length, arith, le-leb}
+use Rattle.std.proofs.lemmas.Bool.{lt-leb}
 use Rattle.field.specs.Choice.{pick}
 use Rattle.message.specs.Layout.{revision_bytes, unsupported_kind}
 use Rattle.message.proofs.ReadBack.{length_revision}
 use Rattle.protocol.specs.Judge.{protocol_revision}
+use Rattle.protocol.specs.Lent.{beside_marks}
 use Rattle.protocol.specs.Step.{execute}
 use Rattle.perform.proofs.turn_away.Goals as goal
 
@@ -19,4 +19,4 @@ pub returns : goal.returns
 unfolding execute pick
 returns c =
     λ table.
-    rw (c.done.ensures, c.write_revision-sent.ensures.sent, c.write_revision-sent.ensures.output, c.only_sender-recipients.ensures, le-leb (length (revision_bytes unsupported_kind protocol_revision)) (length c.args.out.now) (omega (arith, c.if-out-lt-REVISION_LENGTH.false, length_revision unsupported_kind protocol_revision)))
+    rw (c.done.ensures, c.write_revision-sent.ensures.sent, c.write_revision-sent.ensures.output, c.only_sender.ensures c.args.marks.now, le-leb (length (revision_bytes unsupported_kind protocol_revision)) (length c.args.out.now) (omega (arith, c.if-out-lt-REVISION_LENGTH.false, length_revision unsupported_kind protocol_revision)))
