@@ -1,1 +1,1 @@
-pub mod SoundCall
+pub mod StepLaws

@@ -1,106 +1,105 @@
 // The server half: each call on a lent table, with its connection marks and an output. A call judges soundness, judges, and performs.
 #![tactic(auto)]
 
-ghost use Rattle.std.specs.Prelude.{◌≡◌, ◌&&◌, ℕ, List, []};
-ghost use Rattle.table.specs.Table.{lent, max_entries};
+ghost use Rattle.std.specs.Prelude.{◌≡◌, ◌&&◌, true, ℕ, List, [], IsSome, IfSome, ◌↔◌};
+ghost use Rattle.table.specs.Memory.{memory_of};
+ghost use Rattle.table.specs.Table.{lent, entries_of, max_entries};
 ghost use Rattle.soundness.specs.Sound.{sound_table, sound_marks};
-ghost use Rattle.protocol.specs.Judge.{open_connection, leave, client_message, local_create, local_write, read_entry};
+ghost use Rattle.protocol.specs.Judge.{client_message, judge, local_create, local_write, read_entry};
 ghost use Rattle.protocol.specs.Step.{call_step, read_scalar, number_of};
 ghost use Rattle.protocol.specs.Kept.{SoundMemory};
+ghost use Rattle.protocol.specs.Memory.{SameMemory, server_of};
 ghost use Rattle.protocol.specs.Place.{step_with_place};
-ghost use Rattle.protocol.specs.Lent.{lent_server, lent_call, answered};
+ghost use Rattle.protocol.specs.Lent.{beside_marks, lent_server, lent_call, answered};
+ghost use Rattle.judge.specs.Decision.{mark_call, Decides};
 
 use answer::Answer;
-use field::{UNKNOWN_ID, UNSOUND};
-use judge::{CreateDecision, WriteDecision};
+use field::{Fault, Refusal};
+use judge::{Decision, MarkChange};
+use protocol::Memory;
 use scalar::Scalar;
+use soundness::SoundTable;
+use table::Table;
 
-// Whether the table and the marks are sound. Heads and bytes go on as parts of themselves (docs/DECISIONS.md, Speed).
-pub fn is_sound(heads: &[u16], bytes: &[u8], count: u16, marks: &[u8]) -> bool
-    ensures { result ≡ (sound_table max_entries (lent heads.now bytes.now count) && sound_marks marks.now) }
+// The table, where it and the marks are sound.
+pub fn sound<'a>(table: Table<'a>, marks: &[u8]) -> Option<SoundTable<'a>>
+    ensures some { IsSome result ↔ ((sound_table max_entries (memory_of table.entry) && sound_marks marks.now) ≡ true) }
+    ensures same { IfSome result (λ sound. sound.table ≡ table.entry) }
 {
-    if !soundness::table_is_sound(&heads[0..], &bytes[0..], count) {
-        return false;
+    let sound = SoundTable::new(table)?;
+    if !soundness::marks_are_sound(marks) {
+        return None;
     }
-    soundness::marks_are_sound(marks)
+    Some(sound)
 }
 
 // ---- opening and leaving
 
-// A connection opens.
-pub fn open(heads: &[u16], bytes: &[u8], count: u16, marks: &mut [u8], c: usize) -> Answer
-    ensures { answered result (lent_server heads.now bytes.now count marks.new) []
-        ≡ step_with_place max_entries (lent_server heads.now bytes.now count marks.old)
-        (record { call = open_connection c; output = [] }) }
+// A connection opens or leaves.
+#[tactic(auto, using(crate::proofs::StepLaws::unsound_mark, crate::proofs::StepLaws::judged_mark, soundness::proofs::ReadableLaws::sixteen_marks))]
+pub fn change_mark(table: Table, marks: &mut [u8], c: usize, change: MarkChange) -> Answer
+    ensures { answered result (beside_marks (memory_of table.entry) marks.new) []
+        ≡ step_with_place max_entries (beside_marks (memory_of table.entry) marks.old)
+        (record { call = mark_call change c; output = [] }) }
 {
-    if !is_sound(heads, bytes, count, marks) {
+    if sound(table, marks).is_none() {
         return answer::unsound();
     }
-    let decision = judge::judge_open(marks, c);
-    store::perform_mark(marks, c, decision)
-}
-
-// A connection leaves.
-pub fn leave_connection(
-    heads: &[u16],
-    bytes: &[u8],
-    count: u16,
-    marks: &mut [u8],
-    c: usize,
-) -> Answer
-    ensures { answered result (lent_server heads.now bytes.now count marks.new) []
-        ≡ step_with_place max_entries (lent_server heads.now bytes.now count marks.old)
-        (record { call = leave c; output = [] }) }
-{
-    if !is_sound(heads, bytes, count, marks) {
-        return answer::unsound();
+    match store::change_mark(marks, c, change) {
+        Ok(()) => answer::done(0, 0, 0),
+        Err(fault) => answer::refused(fault),
     }
-    let decision = judge::judge_leave(marks, c);
-    store::perform_mark(marks, c, decision)
 }
 
 // ---- messages, and calls of the plant's own code
 
-// One message of a client, on memory that is known to be sound.
-pub fn receive_when_sound(
-    heads: &mut [u16],
-    bytes: &mut [u8],
-    count: &mut u16,
-    marks: &mut [u8],
-    c: usize,
-    m: &[u8],
-    out: &mut [u8],
-) -> Answer
-    requires { SoundMemory max_entries (lent_server heads.old bytes.old count.old marks.old) }
-    ensures { answered result (lent_server heads.new bytes.new count.new marks.new) out.new
-        ≡ step_with_place max_entries (lent_server heads.old bytes.old count.old marks.old)
-        (lent_call (client_message c m.now) out.old) }
+// The verdict on a message, on memory that is known to be sound.
+#[tactic(auto, using(soundness::proofs::SoundLaws::marks_facts))]
+fn decide(memory: &Memory, c: usize, m: &[u8]) -> Result<Decision, Fault>
+    requires { SoundMemory max_entries (server_of memory.now) }
+    ensures { Decides memory.now.count.now c m.now result
+        (judge max_entries (entries_of (server_of memory.now).table) (server_of memory.now).marks (client_message c m.now)) }
 {
-    let decision = judge::judge_client_message(heads, bytes, *count, marks, c, m);
-    perform::perform(heads, bytes, count, marks, c, m, decision, out)
+    let table = SoundTable {
+        table: memory.table(),
+    };
+    judge::judge_client_message(table, memory.marks, c, m)
+}
+
+// One message of a client, on memory that is known to be sound.
+#[tactic(auto, using(crate::proofs::StepLaws::judged_message, soundness::proofs::SoundLaws::marks_facts))]
+pub fn receive_when_sound(memory: &mut Memory, c: usize, m: &[u8], out: &mut [u8]) -> Answer
+    requires { SoundMemory max_entries (server_of memory.old) }
+    ensures same { SameMemory memory.old memory.new }
+    ensures step { answered result (server_of memory.new) out.new
+        ≡ step_with_place max_entries (server_of memory.old) (lent_call (client_message c m.now) out.old) }
+{
+    let decision = decide(memory, c, m);
+    perform::perform(memory, c, m, decision, out)
+}
+
+// Whether the server's memory is sound.
+fn is_sound(memory: &Memory) -> bool
+    ensures { result ≡ (sound_table max_entries (server_of memory.now).table && sound_marks (server_of memory.now).marks) }
+{
+    sound(memory.table(), memory.marks).is_some()
 }
 
 // One message of a client.
-pub fn receive(
-    heads: &mut [u16],
-    bytes: &mut [u8],
-    count: &mut u16,
-    marks: &mut [u8],
-    c: usize,
-    m: &[u8],
-    out: &mut [u8],
-) -> Answer
-    ensures { answered result (lent_server heads.new bytes.new count.new marks.new) out.new
-        ≡ step_with_place max_entries (lent_server heads.old bytes.old count.old marks.old)
-        (lent_call (client_message c m.now) out.old) }
+#[tactic(auto, using(crate::proofs::StepLaws::unsound_message))]
+pub fn receive(memory: &mut Memory, c: usize, m: &[u8], out: &mut [u8]) -> Answer
+    ensures same { SameMemory memory.old memory.new }
+    ensures step { answered result (server_of memory.new) out.new
+        ≡ step_with_place max_entries (server_of memory.old) (lent_call (client_message c m.now) out.old) }
 {
-    if !is_sound(heads, bytes, *count, marks) {
+    if !is_sound(memory) {
         return answer::unsound();
     }
-    receive_when_sound(heads, bytes, count, marks, c, m, out)
+    receive_when_sound(memory, c, m, out)
 }
 
 // Local create: an entry of the plant's own code.
+#[tactic(auto, using(crate::proofs::StepLaws::unsound_create, crate::proofs::StepLaws::refused_create, crate::proofs::StepLaws::stored_create, soundness::proofs::ReadableLaws::sixteen_marks))]
 pub fn create(
     heads: &mut [u16],
     bytes: &mut [u8],
@@ -115,21 +114,24 @@ pub fn create(
         ≡ step_with_place max_entries (lent_server heads.old bytes.old count.old marks.now)
         (lent_call (local_create name.now type_code value.now) out.old) }
 {
-    if !is_sound(heads, bytes, *count, marks) {
+    let lent = Table {
+        heads: &*heads,
+        bytes: &*bytes,
+        count: *count,
+    };
+    let Some(table) = sound(lent, marks) else {
         return answer::unsound();
+    };
+    if let Err(fault) = judge::judge_create(table, name, type_code, value) {
+        return answer::refused(fault);
     }
-    match judge::judge_create(heads, bytes, *count, name, type_code, value) {
-        CreateDecision::Refuse(fault) => answer::refused(fault),
-        CreateDecision::Store => {
-            let recipients = recipients::other_greeted(marks, recipients::NO_ONE);
-            store::store_new(
-                heads, bytes, count, name, type_code, value, 0, recipients, out,
-            )
-        }
-    }
+    let entry = store::new_entry(name, type_code, value);
+    let recipients = recipients::greeted_but(marks, None);
+    store::store_new(heads, bytes, count, entry, 0, recipients, out)
 }
 
 // Local write: another value of an entry.
+#[tactic(auto, using(crate::proofs::StepLaws::unsound_write, crate::proofs::StepLaws::refused_write, crate::proofs::StepLaws::same_write, crate::proofs::StepLaws::stored_write, soundness::proofs::ReadableLaws::sixteen_marks, crate::proofs::StepLaws::entry_there))]
 pub fn write(
     heads: &mut [u16],
     bytes: &mut [u8],
@@ -143,32 +145,39 @@ pub fn write(
         ≡ step_with_place max_entries (lent_server heads.old bytes.old count marks.now)
         (lent_call (local_write id value.now) out.old) }
 {
-    if !is_sound(heads, bytes, count, marks) {
+    let lent = Table {
+        heads: &*heads,
+        bytes: &*bytes,
+        count,
+    };
+    let Some(table) = sound(lent, marks) else {
         return answer::unsound();
-    }
-    match judge::judge_write(heads, bytes, count, id, value) {
-        WriteDecision::Refuse(fault) => answer::refused(fault),
-        WriteDecision::Ignore => answer::ignored(0),
-        WriteDecision::Store(number) => {
-            let recipients = recipients::other_greeted(marks, recipients::NO_ONE);
+    };
+    match judge::judge_write(table, id, value) {
+        Err(fault) => answer::refused(fault),
+        Ok(None) => answer::ignored(0),
+        Ok(Some(number)) => {
+            let recipients = recipients::greeted_but(marks, None);
             store::store_update(heads, bytes, id, number, value, 0, recipients, out)
         }
     }
 }
 
 // Reading an entry. No marks are lent; the number is the step's, whatever the marks are.
-pub fn read(heads: &[u16], bytes: &[u8], count: u16, id: u16) -> Scalar
-    ensures scalar { result ≡ read_scalar max_entries (lent heads.now bytes.now count) id }
+#[tactic(auto, using(crate::proofs::StepLaws::unsound_read, crate::proofs::StepLaws::unknown_read, crate::proofs::StepLaws::held_read, crate::proofs::StepLaws::number_read))]
+pub fn read(table: Table, id: u16) -> Result<Scalar, Refusal>
+    ensures scalar { result ≡ read_scalar max_entries (memory_of table.entry) id }
     ensures number { (marks : List ℕ) → number_of result
-        ≡ (call_step max_entries (record { table = lent heads.now bytes.now count; marks = marks })
+        ≡ (call_step max_entries (beside_marks (memory_of table.entry) marks)
         (record { call = read_entry id; output = [] })).number }
 {
-    if !soundness::table_is_sound(heads, bytes, count) {
-        return Scalar::Refused(UNSOUND);
+    let Some(table) = SoundTable::new(table) else {
+        return Err(Refusal::Unsound);
+    };
+    let i = usize::from(id);
+    if i >= table.len() {
+        return Err(Refusal::UnknownId);
     }
-    if id >= count {
-        return Scalar::Refused(UNKNOWN_ID);
-    }
-    let i = id as usize;
-    scalar::scalar_of(table::type_of(heads, i), table::value_of(heads, bytes, i))
+    let entry = table.entry(i);
+    Ok(scalar::scalar_of(entry.type_code, entry.value))
 }
