@@ -3,7 +3,7 @@
 
 ghost use Rattle.std.specs.Prelude.{◌≡◌, ℕ, ◌+◌, ◌*◌, ◌<◌, ◌≤◌, length, ◌==◌, true, not, IsSome, IfSome, ◌↔◌};
 ghost use Rattle.field.specs.Choice.{pick};
-ghost use Rattle.value.specs.Value.{IsValue};
+ghost use Rattle.value.specs.Value.{IsValue, max_value_size};
 ghost use Rattle.message.specs.Layout.{Entry, max_name_length};
 ghost use Rattle.message.specs.Lent.{entry_lent};
 ghost use Rattle.table.specs.Memory.{memory_of};
@@ -84,6 +84,7 @@ impl<'a> SoundTable<'a> {
     pub fn entry(self, i: usize) -> LentEntry<'a>
         requires { i < self.table.count }
         ensures entry { entry_lent result ≡ entry_of (memory_of self.entry.table) i }
+        ensures lengths { (length result.name.now ≤ max_name_length) × (length result.value.now ≤ max_value_size) }
         ensures typed { result.type_code ≤ 255 }
         ensures valued { IsValue result.type_code result.value.now }
     {
