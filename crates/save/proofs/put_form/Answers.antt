@@ -8,14 +8,14 @@ use Rattle.soundness.proofs.ReadableLaws.{sound_count}
 use Rattle.save.proofs.SaveLaws.{no_records, next_record_lem, form_stored}
 use Rattle.save.proofs.put_form.Goals as goal
 
-pub overflow_cast-len : goal.overflow_cast-len
-overflow_cast-len c = omega (arith, c.len.ensures, sound_count max_entries (memory_of c.args.sound.table) c.args.sound.sound)
+pub overflow_cast-count : goal.overflow_cast-count
+overflow_cast-count c = omega (arith, c.len-count.ensures, sound_count max_entries (memory_of c.args.sound.table) c.args.sound.sound)
 
 pub loop-i-init : goal.loop-i-init
 loop-i-init c = no_records _ _
 
 pub size_of-requires : goal.size_of-requires
-size_of-requires c = omega (arith, c.len-i-end.ensures, sound_count max_entries (memory_of c.args.sound.table) c.args.sound.sound)
+size_of-requires c = omega (arith, c.len-count.ensures, sound_count max_entries (memory_of c.args.sound.table) c.args.sound.sound)
 
 pub loop-i-preserved : goal.loop-i-preserved
 loop-i-preserved c =
@@ -26,5 +26,5 @@ loop-i-preserved c =
 pub returns : goal.returns
 unfolding entries_of
 returns c =
-    form_stored _ c.args.out.now c.put_count.new.out c.loop-i.out c.args.sound.table.count c.loop-i.i (omega (arith, c.len-i-end.ensures))
-    (rw c.len.ensures at c.put_count.ensures) c.loop-i.invariant
+    form_stored _ c.args.out.now c.put_count.new.out c.loop-i.out c.args.sound.table.count c.loop-i.i (omega (arith, c.len-count.ensures))
+    (rw c.len-count.ensures at c.put_count.ensures) c.loop-i.invariant
