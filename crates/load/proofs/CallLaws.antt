@@ -1,6 +1,6 @@
 -- Laws of the call that loads: what it answers and leaves, by what was found.
 use Rattle.std.specs.Prelude.{Err, Ok}
-use mathlib.Core.Path.{◌≡◌, sym, ap, ◌∙◌}
+use mathlib.Core.Path.{◌≡◌, sym, ap}
 use mathlib.Core.Bool.{true, false}
 use mathlib.Core.List.{List}
 use Prim.Native.Nat.{ℕ}
@@ -14,19 +14,18 @@ use Rattle.field.specs.declared.Fault.{Fault}
 use Rattle.answer.specs.Answers.{bare_answer, refused_answer, done_answer}
 use Rattle.table.specs.Table.{TableMemory, emptied, tabulate}
 use Rattle.soundness.specs.Sound.{sound_table, sound_marks}
-use Rattle.saved.specs.Reading.{Reading, refused, read, read_saved}
+use Rattle.saved.specs.Reading.{Reading, read_saved}
 use Rattle.saved.specs.Calls.{load_result, all_closed, store_all, load_read, load}
 use Rattle.load.specs.Records.{saved_entry, outcome}
 use Rattle.load.proofs.RecordsLaws.{form_read}
 
-is_taken : Parsed → ℕ
+abbrev is_taken : Parsed → ℕ
 is_taken (Err fault) = 0
 is_taken (Ok n) = 1
 
-read_refused : (m : TableMemory) (taken : ℕ) (p : Parsed) (fault : Fault) (r : Reading) → p ≡ outcome r → p ≡ Err fault → load_read m taken r ≡ load_result (refused_answer (fault_of p)) m
-unfolding is_taken
-read_refused m taken p fault (refused f) e q = ap (λ (x : Parsed). load_result (refused_answer (fault_of x)) m) (sym e)
-read_refused m taken p fault (read es) e q = absurd (omega (arith, ap is_taken e, ap is_taken q))
+read_refused : (m : TableMemory) (taken : ℕ) (fault : Fault) (r : Reading) → outcome r ≡ Err fault → load_result (refused_answer fault) m ≡ load_read m taken r
+read_refused m taken fault (Err f) e = ap (λ (p : Parsed). load_result (refused_answer (fault_of p)) m) (sym e)
+read_refused m taken fault (Ok es) e = absurd (omega (arith, ap is_taken e))
 
 module _ (limit : ℕ) (m : TableMemory) (marks s : List ℕ) where
   pub load_unsound : sound_table limit m ≡ false → load_result (bare_answer unsound) m ≡ load limit m marks s
@@ -43,11 +42,11 @@ module _ (limit : ℕ) (m : TableMemory) (marks s : List ℕ) where
       unfolding load pick reported_place
       load_connected h = rw (sound, marked, h)
 
-      module _ (closed : all_closed marks ≡ true) (p : Parsed) (judged : p ≡ outcome (read_saved limit s)) where
-        pub load_refused : (fault : Fault) → p ≡ Err fault → load_result (refused_answer (fault_of p)) m ≡ load limit m marks s
+      module _ (closed : all_closed marks ≡ true) where
+        pub load_refused : (fault : Fault) → outcome (read_saved limit s) ≡ Err fault → load_result (refused_answer fault) m ≡ load limit m marks s
         unfolding load pick
-        load_refused fault e = rw (sound, marked, closed, read_refused m (length s) p fault (read_saved limit s) judged e)
+        load_refused fault e = rw (sound, marked, closed) (read_refused m (length s) fault (read_saved limit s) e)
 
-        pub load_stored : (n : ℕ) → p ≡ Ok n → load_result (done_answer 0 (length s) 0) (store_all (emptied m) (tabulate n (saved_entry s))) ≡ load limit m marks s
+        pub load_stored : (n : ℕ) → outcome (read_saved limit s) ≡ Ok n → load_result (done_answer 0 (length s) 0) (store_all (emptied m) (tabulate n (saved_entry s))) ≡ load limit m marks s
         unfolding load pick
-        load_stored n e = rw (sound, marked, closed, (form_read limit s n (sym judged ∙ e)).0)
+        load_stored n e = rw (sound, marked, closed, (form_read limit s n e).0)

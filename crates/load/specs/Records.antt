@@ -3,8 +3,9 @@ use Rattle.field.specs.Field.{Parsed}
 use Rattle.std.specs.Prelude.{ℕ, ◌≤◌, ◌<◌, List, length, drop, Err, Ok}
 use Rattle.value.specs.Value.{max_value_size}
 use Rattle.message.specs.Layout.{Entry, max_name_length}
+use Rattle.table.specs.Table.{max_entries}
 use Rattle.saved.specs.Form.{entry_record_size, saved_size}
-use Rattle.saved.specs.Reading.{Reading, refused, read, name_length_in, value_length_in, record_entry}
+use Rattle.saved.specs.Reading.{Reading, name_length_in, value_length_in, record_entry}
 
 -- the entry in record i
 unfoldable pub saved_entry : List ℕ → ℕ → Entry
@@ -17,10 +18,14 @@ pub record Storable (s : List ℕ) : Type 0 where
   pub value_small : value_length_in s ≤ max_value_size
 
 -- so many records are there
-abbrev pub Records : ℕ → List ℕ → Type 0
-Records count s = (i : ℕ) → i < count → Storable (drop (saved_size i) s)
+abbrev pub RecordsBelow : ℕ → List ℕ → Type 0
+RecordsBelow count s = (i : ℕ) → i < count → Storable (drop (saved_size i) s)
+
+-- record i of a table's is there
+abbrev pub RecordAt : ℕ → List ℕ → Type 0
+RecordAt i s = (i < max_entries) × Storable (drop (saved_size i) s)
 
 -- a reading's refusal, or how many entries were read
 abbrev pub outcome : Reading → Parsed
-outcome (refused fault) = Err fault
-outcome (read es) = Ok (length es)
+outcome (Err fault) = Err fault
+outcome (Ok es) = Ok (length es)

@@ -14,16 +14,12 @@ use Rattle.field.specs.Octets.{overwrite_at}
 use Rattle.field.proofs.OverwriteLaws.{length_overwrite, overwrite_eq, overwrite_append, overwrite_mid}
 use Rattle.field.specs.Answer.{output_too_short, unsound}
 use Rattle.answer.specs.Answers.{bare_answer, done_answer}
-use Rattle.message.specs.Layout.{Entry, max_name_length}
-use Rattle.table.specs.Table.{TableMemory, HasName, HasValue, entry_at, entry_of, tabulate, entries_of, max_entries}
-use Rattle.soundness.proofs.ReadableLaws.{sound_readable}
-use Rattle.value.specs.Value.{max_value_size}
-use Rattle.table.proofs.SearchLaws.{name_length_lem, value_length_lem, has_name, has_value}
+use Rattle.message.specs.Layout.{Entry}
+use Rattle.table.specs.Table.{TableMemory, tabulate, entries_of}
 use Rattle.table.proofs.TabulateLaws.{length_tabulate}
 use Rattle.soundness.specs.Sound.{sound_table}
 use Rattle.saved.specs.Form.{count_record_size, entry_record_size, saved_size, filled, count_record, entry_record, entry_records, saved_form}
 use Rattle.saved.specs.Calls.{save_result, save}
-use Rattle.saved.proofs.BackLaws.{length_record}
 use Rattle.save.proofs.FormLaws.{records_more}
 
 -- one zero more, and all of them
@@ -77,30 +73,6 @@ pub store_behind : (out : List ℕ) (at : ℕ) (bytes now : List ℕ) (end : ℕ
 store_behind out at bytes now end more now' h e g = g ∙ rw h (overwrite_append out at bytes more end e)
 
 -- ---- the saved form, record by record
-
--- an entry that can be saved
-pub record Savable (m : TableMemory) (i : ℕ) : Type 0 where
-  pub there : HasName i m.heads m.bytes × HasValue i m.heads m.bytes
-  pub name_small : length (entry_of m i).name ≤ max_name_length
-  pub value_small : length (entry_of m i).value ≤ max_value_size
-  pub type_small : (entry_of m i).type ≤ 255
-  pub size : length (entry_record (entry_of m i)) ≡ entry_record_size
-
-pub savable : (m : TableMemory) (i : ℕ) → sound_table max_entries m ≡ true → i < m.count → Savable m i
-unfolding entry_at
-savable m i h l =
-    let r = sound_readable max_entries m h in
-    let name = has_name m.heads m.bytes i r.named l in
-    let value = has_value m.heads m.bytes i r l in
-    let name_small : length (entry_of m i).name ≤ max_name_length = omega (arith, name_length_lem m.heads m.bytes i name, r.named.names_fit i l) in
-    let value_small : length (entry_of m i).value ≤ max_value_size = omega (arith, value_length_lem m.heads m.bytes i value, r.values_fit i l) in
-    record {
-      there = (name, value);
-      name_small = name_small;
-      value_small = value_small;
-      type_small = r.types_fit i l;
-      size = length_record (entry_of m i) name_small value_small;
-    }
 
 -- the records of the first i entries are stored in out behind the first record, which gives now, and end where record i starts
 pub record RecordsStored (f : ℕ → Entry) (out now : List ℕ) (i : ℕ) : Type 0 where

@@ -85,10 +85,10 @@ fn put_form(out: &mut [u8], sound: SoundTable)
     requires { saved_size sound.table.count ≤ length out.old }
     ensures { out.new ≡ overwrite_at out.old 0 (saved_form (entries_of (memory_of sound.entry.table))) }
 {
-    let table = sound.table;
-    put_count(out, table.count as u8);
-    for i in 0..table.len() {
-        put_record(out, saved::size_of(i), table.entry(i));
+    let count = sound.len();
+    put_count(out, count as u8);
+    for i in 0..count {
+        put_record(out, saved::size_of(i), sound.entry(i));
     }
 }
 

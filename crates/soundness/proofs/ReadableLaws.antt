@@ -2,9 +2,10 @@
 use Rattle.std.proofs.Common.{◌≡◌, ℕ, ◌<◌, ◌≤◌, true, ◌&&◌, List, length, arith}
 use mathlib.Core.Bool.{and-eq-true_iff}
 use Rattle.value.specs.Value.{IsValue, max_value_size}
+use Rattle.message.specs.Layout.{max_name_length}
 use Rattle.value.proofs.ValueLaws.{value_known, known_small}
 use Rattle.table.specs.Table.{TableMemory, type_field, value_length_field, head_field, HasHead, HasName, HasValue, entry_at, Holds, Named, Readable, max_entries}
-use Rattle.table.proofs.SearchLaws.{has_name, has_value, holds_less}
+use Rattle.table.proofs.SearchLaws.{has_name, has_value, name_length_lem, value_length_lem, holds_less}
 use Rattle.soundness.specs.Sound.{sound_table, connections, sound_marks}
 use Rattle.soundness.specs.Facts.{SoundFacts}
 use Rattle.soundness.proofs.SoundLaws.{sound_facts, marks_facts}
@@ -44,6 +45,8 @@ pub record StoredEntry (m : TableMemory) (i : ℕ) : Type 0 where
   pub value_there : HasValue i m.heads m.bytes
   pub type_small : head_field m.heads i type_field ≤ 0x12
   pub value_small : head_field m.heads i value_length_field ≤ max_value_size
+  pub name_small : length (entry_at m.heads m.bytes i).name ≤ max_name_length
+  pub value_fits : length (entry_at m.heads m.bytes i).value ≤ max_value_size
   pub value_whole : IsValue (head_field m.heads i type_field) (entry_at m.heads m.bytes i).value
 
 pub stored_entry : (limit : ℕ) (m : TableMemory) (i : ℕ) → sound_table limit m ≡ true → i < m.count → StoredEntry m i
@@ -51,12 +54,15 @@ unfolding entry_at
 stored_entry limit m i h l =
     let readable = sound_readable limit m h in
     let name = has_name m.heads m.bytes i readable.named l in
+    let value = has_value m.heads m.bytes i readable l in
     record {
       head_there = name.0;
       name_there = name;
-      value_there = has_value m.heads m.bytes i readable l;
+      value_there = value;
       type_small = sound_type limit m h i l;
       value_small = readable.values_fit i l;
+      name_small = omega (arith, name_length_lem m.heads m.bytes i name, readable.named.names_fit i l);
+      value_fits = omega (arith, value_length_lem m.heads m.bytes i value, readable.values_fit i l);
       value_whole = sound_value limit m h i l;
     }
 

@@ -4,4 +4,4 @@ use Rattle.save.proofs.put_form.Given as goal
 
 -- the records of the entries passed are stored behind the first record
 abbrev pub invariant-loop-i : goal.invariant-loop-i
-invariant-loop-i l = RecordsStored (entry_at l.table.heads.now l.table.bytes.now) l.initial.out l.out l.i
+invariant-loop-i l = RecordsStored (entry_at l.sound.table.heads.now l.sound.table.bytes.now) l.initial.out l.out l.i

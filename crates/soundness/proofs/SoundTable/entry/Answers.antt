@@ -1,4 +1,4 @@
-use Rattle.std.proofs.Common.{ap, arith}
+use Rattle.std.proofs.Common.{length, ap, arith}
 use Rattle.message.specs.Layout.{Entry}
 use Rattle.table.specs.Table.{table_memory, entry_at, max_entries}
 use Rattle.soundness.proofs.ReadableLaws.{stored_entry}
@@ -18,6 +18,7 @@ returns c =
     let e = c.entry.ensures in
     record {
       entry = e;
+      lengths = (omega (arith, ap (λ (x : Entry). length x.name) e, s.name_small), omega (arith, ap (λ (x : Entry). length x.value) e, s.value_fits));
       typed = omega (arith, ap (λ (x : Entry). x.type) e, s.type_small);
       valued = rw (ap (λ (x : Entry). x.type) e, ap (λ (x : Entry). x.value) e) s.value_whole;
     }
