@@ -2,13 +2,15 @@
 use Rattle.std.proofs.Common.{◌≡◌, sym, ap, ◌∙◌, true, List, [], ℕ, ◌+◌, ◌≤◌, arith, length, drop, Result, Ok, Err}
 use lib.ListN.{length-take}
 use Rattle.field.specs.Place.{WithPlace}
+use Rattle.field.specs.Refusal.{refusal_number}
 use Rattle.field.specs.declared.Fault.{Fault}
+use Rattle.field.specs.declared.Refusal.{Refusal}
 use Rattle.message.specs.Layout.{assignment_name_start, assignment_fixed, update_value_start, unsupported_kind}
 use Rattle.message.specs.Reader.{name_in, value_in, update_value_in}
 use Rattle.table.specs.Table.{entries_of, max_entries}
 use Rattle.soundness.specs.Sound.{sound_table}
 use Rattle.hello.specs.Hello.{longest_hello}
-use Rattle.protocol.specs.Judge.{Call, Verdict, protocol_revision, new_entry, judge}
+use Rattle.protocol.specs.Judge.{Call, Verdict, refuse, protocol_revision, new_entry, judge}
 use Rattle.protocol.specs.Step.{ServerMemory, CallResult, execute, call_step}
 use Rattle.protocol.specs.Kept.{SoundMemory}
 use Rattle.protocol.specs.Place.{execute_with_place}
@@ -49,10 +51,20 @@ pub verdict_effect : (mem : ServerMemory) → SoundMemory max_entries mem → (c
     → with_room mem v ≡ effect_of (call_step max_entries mem (with_output max_entries call))
 verdict_effect mem s call v decided = ap (with_room mem) decided ∙ sym (call_longest max_entries mem (omega arith) s call)
 
+-- a refusal
+pub refused_effect : (mem : ServerMemory) → SoundMemory max_entries mem → (call : Call) (fault : Fault) (refusal : Refusal) → refusal_number refusal ≡ fault.number
+    → refuse fault ≡ judge max_entries (entries_of mem.table) mem.marks call
+    → done_effect (Err refusal) mem ≡ effect_of (call_step max_entries mem (with_output max_entries call))
+refused_effect mem s call fault refusal n decided = rw n (verdict_effect mem s call (refuse fault) decided)
+
 -- ---- opening and leaving: no bytes are taken
 
-pub mark_effect : (mem after : ServerMemory) → SoundMemory max_entries mem → (call : Call) (r : Result (Unit {0}) Fault)
-    → marked r after [] ≡ execute_with_place mem [] (judge max_entries (entries_of mem.table) mem.marks call)
-    → done_effect r after ≡ effect_of (call_step max_entries mem (without_output call))
-mark_effect mem after s call (Ok tt) done = rw (step_is max_entries mem s (without_output call)) (ap (λ (w : WithPlace CallResult). effect_of w.result) done)
-mark_effect mem after s call (Err fault) done = rw (step_is max_entries mem s (without_output call)) (ap (λ (w : WithPlace CallResult). effect_of w.result) done)
+pub mark_made : (mem after : ServerMemory) → SoundMemory max_entries mem → (call : Call)
+    → marked (Ok tt) after [] ≡ execute_with_place mem [] (judge max_entries (entries_of mem.table) mem.marks call)
+    → done_effect (Ok tt) after ≡ effect_of (call_step max_entries mem (without_output call))
+mark_made mem after s call done = rw (step_is max_entries mem s (without_output call)) (ap (λ (w : WithPlace CallResult). effect_of w.result) done)
+
+pub mark_refused : (mem after : ServerMemory) → SoundMemory max_entries mem → (call : Call) (fault : Fault) (refusal : Refusal) → refusal_number refusal ≡ fault.number
+    → marked (Err fault) after [] ≡ execute_with_place mem [] (judge max_entries (entries_of mem.table) mem.marks call)
+    → done_effect (Err refusal) after ≡ effect_of (call_step max_entries mem (without_output call))
+mark_refused mem after s call fault refusal n done = rw (n, step_is max_entries mem s (without_output call)) (ap (λ (w : WithPlace CallResult). effect_of w.result) done)

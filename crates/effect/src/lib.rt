@@ -13,14 +13,14 @@ ghost use Rattle.protocol.specs.Effect.{effect_of, longest_output, with_output, 
 ghost use Rattle.judge.specs.Decision.{mark_call, verdict_of, Performable, Decides};
 ghost use Rattle.effect.specs.Lent.{effected, done_effect, outcome_effect};
 
-use field::Fault;
+use field::{Fault, Refusal};
 use judge::{Decision, MarkChange};
 use message::REVISION_LENGTH;
 use protocol::Memory;
 use soundness::SoundTable;
 use table::Table;
 
-// What a call that is not refused comes to.
+// What a call that is not refused comes to. Of a refusal the place is not told: nobody looks at it.
 #[derive(Clone, Copy, PartialEq, Eq)]
 pub enum Outcome {
     Done,
@@ -37,13 +37,16 @@ pub struct Taken {
 // ---- opening and leaving: no entry is looked at
 
 // A connection opens or leaves.
-pub fn change_mark(marks: &mut [u8], c: usize, change: MarkChange) -> Result<(), Fault>
+pub fn change_mark(marks: &mut [u8], c: usize, change: MarkChange) -> Result<(), Refusal>
     requires { sound_marks marks.old ≡ true }
     ensures { (table : TableMemory) → sound_table max_entries table ≡ true →
         done_effect result (beside_marks table marks.new)
         ≡ effect_of (call_step max_entries (beside_marks table marks.old) (without_output (mark_call change c))) }
 {
-    store::change_mark(marks, c, change)
+    match store::change_mark(marks, c, change) {
+        Ok(()) => Ok(()),
+        Err(fault) => Err(fault.refusal()),
+    }
 }
 
 // ---- a client's message
@@ -109,15 +112,17 @@ fn apply(memory: &mut Memory, c: usize, m: &[u8], decision: Decision) -> Taken
 }
 
 // One message of a client.
-pub fn receive(memory: &mut Memory, c: usize, m: &[u8]) -> Result<Taken, Fault>
+pub fn receive(memory: &mut Memory, c: usize, m: &[u8]) -> Result<Taken, Refusal>
     requires { SoundMemory max_entries (server_of memory.old) }
     ensures same { SameMemory memory.old memory.new }
     ensures effect { effected result (server_of memory.new)
         ≡ effect_of (call_step max_entries (server_of memory.old)
         (with_output max_entries (client_message c m.now))) }
 {
-    let decision = decide(memory, c, m)?;
-    Ok(apply(memory, c, m, decision))
+    match decide(memory, c, m) {
+        Ok(decision) => Ok(apply(memory, c, m, decision)),
+        Err(fault) => Err(fault.refusal()),
+    }
 }
 
 // ---- local calls. Stays: no mark is looked at, so heads, bytes and count are lent, and no Memory
@@ -130,7 +135,7 @@ pub fn create(
     name: &[u8],
     type_code: u8,
     value: &[u8],
-) -> Result<(), Fault>
+) -> Result<(), Refusal>
     requires { sound_table max_entries (lent heads.old bytes.old count.old) ≡ true }
     ensures { (marks : List ℕ) → sound_marks marks ≡ true →
         done_effect result (beside_marks (lent heads.new bytes.new count.new) marks)
@@ -144,10 +149,14 @@ pub fn create(
             count: *count,
         },
     };
-    judge::judge_create(table, name, type_code, value)?;
-    let entry = store::new_entry(name, type_code, value);
-    table::add_entry(heads, bytes, count, entry);
-    Ok(())
+    match judge::judge_create(table, name, type_code, value) {
+        Ok(()) => {
+            let entry = store::new_entry(name, type_code, value);
+            table::add_entry(heads, bytes, count, entry);
+            Ok(())
+        }
+        Err(fault) => Err(fault.refusal()),
+    }
 }
 
 // Local write.
@@ -157,7 +166,7 @@ pub fn write(
     count: u16,
     id: u16,
     value: &[u8],
-) -> Result<Outcome, Fault>
+) -> Result<Outcome, Refusal>
     requires { sound_table max_entries (lent heads.old bytes.old count) ≡ true }
     ensures { (marks : List ℕ) → sound_marks marks ≡ true →
         outcome_effect result (beside_marks (lent heads.new bytes.new count) marks)
@@ -171,9 +180,12 @@ pub fn write(
             count,
         },
     };
-    let Some(number) = judge::judge_write(table, id, value)? else {
-        return Ok(Outcome::Ignored);
-    };
-    table::store_value(heads, bytes, usize::from(id), number, value);
-    Ok(Outcome::Done)
+    match judge::judge_write(table, id, value) {
+        Ok(Some(number)) => {
+            table::store_value(heads, bytes, usize::from(id), number, value);
+            Ok(Outcome::Done)
+        }
+        Ok(None) => Ok(Outcome::Ignored),
+        Err(fault) => Err(fault.refusal()),
+    }
 }
