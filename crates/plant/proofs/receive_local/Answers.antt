@@ -1,44 +1,35 @@
--- `receive_local` reads the kind, and makes the local call that it asks for.
-use mathlib.Core.Path.{◌≡◌, sym, ◌∙◌}
-use Prim.Native.Nat.{◌≤◌}
-use native.Mathlib.Omega.{arith}
-use lib.ListN.{length, get_or}
-use borrow.Author.Tests.{le-leb, lt-leb, eq-eqb, ne_eqb}
+-- `receive_local` reads the kind.
+use Rattle.std.proofs.Common.{◌≡◌, Ok, Err, rules, le-leb, length}
+use borrow.Author.Tests.{lt-leb, ne_eqb}
 use Rattle.field.specs.Choice.{pick}
+use Rattle.field.specs.Field.{octet_at}
 use Rattle.field.proofs.FieldLaws.{octet_there, octet_missing}
-use Rattle.message.specs.Layout.{kind_size, assignment_kind, update_kind}
+use Rattle.message.specs.declared.Kind.TheVariants as K
+use Rattle.message.proofs.KindLaws.{byte_of, unknown_of}
 use Rattle.line_record.specs.Plant.{plant_message}
 use Rattle.line_record.specs.Held.{plant_effect}
 use Rattle.plant.proofs.receive_local.Goals as goal
 
-pub returns-in_default : goal.returns-in_default
-unfolding pick plant_effect plant_message
-returns-in_default c =
+pub returns-in_err-kind-in-Ok : goal.returns-in_err-kind-in-Ok
+unfolding plant_message plant_effect pick
+returns-in_err-kind-in-Ok c =
+    let refusal = c.in_err-kind-in-Ok.field-0.0 in
+    let e : c.from_residual.result ≡ Err refusal = search rules in
+    let there : Ok c.in-Ok.byte ≡ octet_at c.args.m.now 0 = search rules in
+    let h = octet_there c.args.m.now 0 c.in-Ok.byte there in
+    let u = unknown_of c.in_err-kind-in-Ok.ensures in
+    let other = u.1 in
     λ marks sound.
+    rw (e, u.0, le-leb 1 (length c.args.m.now) h.0, ← h.1, ne_eqb _ _ (other K.Assignment), ne_eqb _ _ (other K.Update))
+
+pub receive_kind-requires-clause-kind : goal.receive_kind-requires-clause-kind
+receive_kind-requires-clause-kind c =
+    let there : Ok c.in-Ok.byte ≡ octet_at c.args.m.now 0 = search rules in
+    rw (← byte_of c.in_ok-kind-in-Ok.ensures) there
+
+pub returns-in-Err : goal.returns-in-Err
+unfolding plant_message plant_effect pick
+returns-in-Err c =
     let m = c.args.m.now in
-    let l = octet_missing m 0 (sym c.in_default.is ∙ c.octet_at.ensures) in
-    rw (c.answers.ensures, lt-leb kind_size (length m) (omega arith))
-
-pub returns-then-kind-eq-ASSIGNMENT : goal.returns-then-kind-eq-ASSIGNMENT
-unfolding pick plant_message
-returns-then-kind-eq-ASSIGNMENT c =
-    let kind_there : (kind_size ≤ length c.args.m.now) × (c.in-There.kind ≡ get_or c.args.m.now 0 0) = octet_there c.args.m.now 0 c.in-There.kind (sym c.in-There.is ∙ c.octet_at.ensures) in
-    λ marks sound.
-    let h = kind_there in
-    rw (le-leb kind_size _ h.0, ← h.1, eq-eqb _ assignment_kind c.if-kind-eq-ASSIGNMENT.true) (c.create.ensures marks sound)
-
-pub returns-then-kind-eq-UPDATE : goal.returns-then-kind-eq-UPDATE
-unfolding pick plant_message
-returns-then-kind-eq-UPDATE c =
-    let kind_there : (kind_size ≤ length c.args.m.now) × (c.in-There.kind ≡ get_or c.args.m.now 0 0) = octet_there c.args.m.now 0 c.in-There.kind (sym c.in-There.is ∙ c.octet_at.ensures) in
-    λ marks sound.
-    let h = kind_there in
-    rw (le-leb kind_size _ h.0, ← h.1, ne_eqb _ assignment_kind c.if-kind-eq-ASSIGNMENT.false, eq-eqb _ update_kind c.if-kind-eq-UPDATE.true) (c.write.ensures marks sound)
-
-pub returns : goal.returns
-unfolding pick plant_effect plant_message
-returns c =
-    let kind_there : (kind_size ≤ length c.args.m.now) × (c.in-There.kind ≡ get_or c.args.m.now 0 0) = octet_there c.args.m.now 0 c.in-There.kind (sym c.in-There.is ∙ c.octet_at.ensures) in
-    λ marks sound.
-    let h = kind_there in
-    rw (c.answers-2.ensures, le-leb kind_size _ h.0, ← h.1, ne_eqb _ assignment_kind c.if-kind-eq-ASSIGNMENT.false, ne_eqb _ update_kind c.if-kind-eq-UPDATE.false)
+    let cut : Err c.in-Err.field-0 ≡ octet_at m 0 = search rules in
+    λ marks sound. rw (lt-leb 1 (length m) (octet_missing m 0 c.in-Err.field-0 cut).0)
