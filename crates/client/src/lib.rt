@@ -1,7 +1,8 @@
 // The client half: a copy of the server's table, kept from the server's messages. A call judges soundness, judges, and performs.
 #![tactic(auto)]
 
-ghost use Rattle.std.specs.Prelude.{◌≡◌, true, Ok};
+ghost use Rattle.std.specs.Prelude.{◌≡◌, true, eqb, Ok};
+ghost use Rattle.field.specs.Answer.{done, unsound};
 ghost use Rattle.message.specs.Kinds.{kind_byte};
 ghost use Rattle.message.specs.Reader.{id_allowed, parse_assignment};
 ghost use Rattle.table.specs.Memory.{memory_of};
@@ -9,9 +10,10 @@ ghost use Rattle.table.specs.Table.{lent, entries_of, max_entries};
 ghost use Rattle.soundness.specs.Sound.{sound_table};
 ghost use Rattle.protocol.specs.Copy.{judge_copy_assignment, judge_copy_kind, judge_copy};
 ghost use Rattle.protocol.specs.Place.{execute_copy_with_place, copy_with_place};
-ghost use Rattle.client.specs.Lent.{copied, refused_copied, ignored_copied, stored_copied};
+ghost use Rattle.client.specs.Lent.{copied, bare_copied, refused_copied, ignored_copied, stored_copied};
 ghost use Rattle.client.specs.Lent.{copy_verdict_of, Copyable, DecidesCopy};
 
+use answer::Answered;
 use field::{DONE, Fault, IGNORED, Refusal};
 use message::{AllowedId, Assignment, KIND_SIZE, Kind, LentEntry, REVISION_LENGTH, Update};
 use reader::Reader;
@@ -36,6 +38,20 @@ pub const ON_UNSOUND: Copied = Copied {
     taken: 0,
     place: 0,
 };
+
+impl Answered for Copied {
+    ghost on_unsound = { bare_copied unsound };
+
+    ghost changes_heads = { λ a. eqb a.number done };
+
+    fn on_unsound() -> Copied {
+        ON_UNSOUND
+    }
+
+    fn changes_heads(&self) -> bool {
+        self.number == DONE
+    }
+}
 
 fn refused(fault: Fault) -> Copied
     ensures { result ≡ refused_copied fault }

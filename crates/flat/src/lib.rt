@@ -1,21 +1,24 @@
-// The calls on a table in the form that C's calls hand on to: the count is lent, heads are flat numbers, and the answers are C's structs.
+// What C's calls hand on to where the core has another form: the server's memory lent in parts, and a scalar as C's struct.
 #![tactic(auto)]
 
-ghost use Rattle.std.specs.Prelude.{◌≡◌, []};
-ghost use Rattle.answer.specs.Answers.{bare_answer};
-ghost use Rattle.table.specs.Table.{lent, max_entries};
-ghost use Rattle.protocol.specs.Judge.{open_connection, leave, local_write};
-ghost use Rattle.protocol.specs.Step.{fresh_start, read_scalar};
+ghost use Rattle.std.specs.Prelude.{◌≡◌, Err, false};
+ghost use Rattle.field.specs.declared.Refusal.TheVariants.{Unsound};
+ghost use Rattle.table.specs.Memory.{memory_of};
+ghost use Rattle.table.specs.Table.{max_entries};
+ghost use Rattle.protocol.specs.Judge.{client_message};
+ghost use Rattle.protocol.specs.Step.{read_scalar};
 ghost use Rattle.protocol.specs.Place.{step_with_place};
 ghost use Rattle.protocol.specs.Lent.{lent_server, lent_call, answered};
-ghost use Rattle.protocol.specs.Copy.{copy_fresh_start};
 ghost use Rattle.flat.specs.Answers.{scalar_answer};
 
-use answer::Answer;
-use field::{DONE, UNSOUND};
+use answer::{Answer, Answered};
+use field::{DONE, Refusal};
+use protocol::Memory;
 use scalar::Scalar;
+use table::Table;
 
 // What reading an entry answers: 0 a Boolean is found, 1 a Double, 2 neither.
+// Stays: a number for what is found, with a place for each, since it is C's struct.
 #[repr(C)]
 #[derive(Drop)]
 pub struct ScalarAnswer {
@@ -25,110 +28,83 @@ pub struct ScalarAnswer {
     pub value: f64,
 }
 
-// The answer on memory that is unsound or too small: a number alone. Every other refusal is made of it.
+// The answer on memory that is unsound or too small: a number alone. All other answers are made of it.
 pub const ON_UNSOUND: ScalarAnswer = ScalarAnswer {
-    number: UNSOUND,
+    number: Refusal::Unsound as u8,
     found: 0,
     flag: false,
     value: 0.0,
 };
 
-// The two promises of a fresh start as one.
-pub fn fresh_flat(flat: &[u16], bytes: &[u8], count: &mut u16, marks: &mut [u8]) -> Answer
-    ensures { (result ≡ bare_answer (fresh_start max_entries (lent_server flat.now bytes.now count.old marks.old)).number)
-        × (lent_server flat.now bytes.now count.new marks.new
-        ≡ (fresh_start max_entries (lent_server flat.now bytes.now count.old marks.old)).memory) }
-{
-    start::fresh(flat, bytes, count, marks)
+impl Answered for ScalarAnswer {
+    ghost on_unsound = { scalar_answer (Err Unsound) };
+
+    ghost changes_heads = { λ _. false };
+
+    fn on_unsound() -> ScalarAnswer {
+        ON_UNSOUND
+    }
+
+    fn changes_heads(&self) -> bool {
+        false
+    }
 }
 
-pub fn open_flat(
-    flat: &[u16],
-    bytes: &[u8],
-    count: &mut u16,
-    marks: &mut [u8],
-    connection: usize,
-) -> Answer
-    ensures { answered result (lent_server flat.now bytes.now count.new marks.new) []
-        ≡ step_with_place max_entries (lent_server flat.now bytes.now count.old marks.old)
-        (record { call = open_connection connection; output = [] }) }
-{
-    server::open(flat, bytes, *count, marks, connection)
-}
+impl From<Result<Scalar, Refusal>> for ScalarAnswer {
+    ghost from_gives = { λ read answer. answer ≡ scalar_answer read };
 
-pub fn leave_flat(
-    flat: &[u16],
-    bytes: &[u8],
-    count: &mut u16,
-    marks: &mut [u8],
-    connection: usize,
-) -> Answer
-    ensures { answered result (lent_server flat.now bytes.now count.new marks.new) []
-        ≡ step_with_place max_entries (lent_server flat.now bytes.now count.old marks.old)
-        (record { call = leave connection; output = [] }) }
-{
-    server::leave_connection(flat, bytes, *count, marks, connection)
-}
-
-pub fn write_flat(
-    flat: &mut [u16],
-    bytes: &mut [u8],
-    count: &mut u16,
-    marks: &[u8],
-    id: u16,
-    value: &[u8],
-    out: &mut [u8],
-) -> Answer
-    ensures { answered result (lent_server flat.new bytes.new count.new marks.now) out.new
-        ≡ step_with_place max_entries (lent_server flat.old bytes.old count.old marks.now)
-        (lent_call (local_write id value.now) out.old) }
-{
-    server::write(flat, bytes, *count, marks, id, value, out)
-}
-
-fn answer_scalar(s: Scalar) -> ScalarAnswer
-    ensures { result ≡ scalar_answer s }
-{
-    match s {
-        Scalar::Boolean(flag) => ScalarAnswer {
-            number: DONE,
-            found: 0,
-            flag: flag,
-            value: 0.0,
-        },
-        Scalar::Double(value) => ScalarAnswer {
-            number: DONE,
-            found: 1,
-            flag: false,
-            value: value,
-        },
-        Scalar::Neither => ScalarAnswer {
-            number: DONE,
-            found: 2,
-            flag: false,
-            value: 0.0,
-        },
-        Scalar::Refused(number) => {
-            let mut refused = ON_UNSOUND;
-            refused.number = number;
-            refused
+    fn from(read: Result<Scalar, Refusal>) -> ScalarAnswer {
+        match read {
+            Ok(Scalar::Boolean(flag)) => ScalarAnswer {
+                number: DONE,
+                flag,
+                ..ON_UNSOUND
+            },
+            Ok(Scalar::Double(value)) => ScalarAnswer {
+                number: DONE,
+                found: 1,
+                value,
+                ..ON_UNSOUND
+            },
+            Ok(Scalar::Neither) => ScalarAnswer {
+                number: DONE,
+                found: 2,
+                ..ON_UNSOUND
+            },
+            Err(refusal) => ScalarAnswer {
+                number: u8::from(refusal),
+                ..ON_UNSOUND
+            },
         }
     }
 }
 
-pub fn read_flat(flat: &[u16], bytes: &[u8], count: &mut u16, id: u16) -> ScalarAnswer
-    ensures { (result ≡ scalar_answer (read_scalar max_entries (lent flat.now bytes.now count.old) id))
-        × (count.new ≡ count.old) }
+// Reading an entry.
+pub fn read(table: Table, id: u16) -> ScalarAnswer
+    ensures { result ≡ scalar_answer (read_scalar max_entries (memory_of table.entry) id) }
 {
-    let scalar = server::read(flat, bytes, *count, id);
-    answer_scalar(scalar)
+    ScalarAnswer::from(server::read(table, id))
 }
 
-// A fresh start of a copy, with its two promises as one.
-pub fn copy_fresh_flat(flat: &[u16], bytes: &[u8], count: &mut u16) -> Answer
-    ensures { (result ≡ bare_answer (copy_fresh_start max_entries (lent flat.now bytes.now count.old)).number)
-        × (lent flat.now bytes.now count.new
-        ≡ (copy_fresh_start max_entries (lent flat.now bytes.now count.old)).memory) }
+// One message of a client. A closure of a call on heads holds its references by reference, and no struct can be made of them there.
+pub fn receive(
+    heads: &mut [u16],
+    bytes: &mut [u8],
+    count: &mut u16,
+    marks: &mut [u8],
+    c: usize,
+    m: &[u8],
+    out: &mut [u8],
+) -> Answer
+    ensures { answered result (lent_server heads.new bytes.new count.new marks.new) out.new
+        ≡ step_with_place max_entries (lent_server heads.old bytes.old count.old marks.old)
+        (lent_call (client_message c m.now) out.old) }
 {
-    start::copy_fresh(flat, bytes, count)
+    let mut memory = Memory {
+        heads,
+        bytes,
+        count,
+        marks,
+    };
+    server::receive(&mut memory, c, m, out)
 }

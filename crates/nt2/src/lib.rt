@@ -15,19 +15,22 @@ use client::Copied;
 use fields::Fields;
 use flat::ScalarAnswer;
 use heads::Head;
+use judge::MarkChange;
+use table::Table;
+use writer::MessageFields;
 
+#[tactic(auto, using(crate::proofs::Calls::few_started))]
 pub fn nt2_fresh(heads: &[Head], bytes: &[u8], count: &mut u16, marks: &mut [u8]) -> Answer
     ensures { Started (lent heads.now bytes.now count.old marks.old) result
         (lent heads.now bytes.now count.new marks.new) }
 {
-    if heads.len() < table::MAX_ENTRIES {
-        return answer::ON_UNSOUND;
-    }
-    let mut flat = [0u16; table::HEADS_SIZE];
-    heads::load(heads, &mut flat);
-    flat::fresh_flat(&flat, bytes, count, marks)
+    heads::read(
+        heads,
+        &mut |flat: &[u16]| start::fresh(flat, bytes, count, marks),
+    )
 }
 
+#[tactic(auto, using(crate::proofs::Calls::few_answered, crate::proofs::Calls::read_call))]
 pub fn nt2_open(
     heads: &[Head],
     bytes: &[u8],
@@ -39,14 +42,20 @@ pub fn nt2_open(
         ≡ heads_step (lent heads.now bytes.now count.old marks.old)
         (record { call = open_connection connection; output = [] }) }
 {
-    if heads.len() < table::MAX_ENTRIES {
-        return answer::ON_UNSOUND;
-    }
-    let mut flat = [0u16; table::HEADS_SIZE];
-    heads::load(heads, &mut flat);
-    flat::open_flat(&flat, bytes, count, marks, connection)
+    heads::read(
+        heads,
+        &mut |flat: &[u16]| {
+            let table = Table {
+                heads: flat,
+                bytes,
+                count: *count,
+            };
+            server::change_mark(table, marks, connection, MarkChange::Open)
+        },
+    )
 }
 
+#[tactic(auto, using(crate::proofs::Calls::few_answered, crate::proofs::Calls::read_call))]
 pub fn nt2_leave(
     heads: &[Head],
     bytes: &[u8],
@@ -58,12 +67,17 @@ pub fn nt2_leave(
         ≡ heads_step (lent heads.now bytes.now count.old marks.old)
         (record { call = leave connection; output = [] }) }
 {
-    if heads.len() < table::MAX_ENTRIES {
-        return answer::ON_UNSOUND;
-    }
-    let mut flat = [0u16; table::HEADS_SIZE];
-    heads::load(heads, &mut flat);
-    flat::leave_flat(&flat, bytes, count, marks, connection)
+    heads::read(
+        heads,
+        &mut |flat: &[u16]| {
+            let table = Table {
+                heads: flat,
+                bytes,
+                count: *count,
+            };
+            server::change_mark(table, marks, connection, MarkChange::Close)
+        },
+    )
 }
 
 pub fn nt2_receive(
@@ -79,14 +93,10 @@ pub fn nt2_receive(
         ≡ heads_step (lent heads.old bytes.old count.old marks.old)
         (lent_call (client_message connection message.now) out.old) }
 {
-    if heads.len() < table::MAX_ENTRIES {
-        return answer::ON_UNSOUND;
-    }
-    let mut flat = [0u16; table::HEADS_SIZE];
-    heads::load(heads, &mut flat);
-    let r = server::receive(&mut flat, bytes, count, marks, connection, message, out);
-    heads::store(r.number, &flat, heads);
-    r
+    heads::change(
+        heads,
+        &mut |flat: &mut [u16]| flat::receive(flat, bytes, count, marks, connection, message, out),
+    )
 }
 
 pub fn nt2_create(
@@ -103,14 +113,12 @@ pub fn nt2_create(
         ≡ heads_step (lent heads.old bytes.old count.old marks.now)
         (lent_call (local_create name.now type_code value.now) out.old) }
 {
-    if heads.len() < table::MAX_ENTRIES {
-        return answer::ON_UNSOUND;
-    }
-    let mut flat = [0u16; table::HEADS_SIZE];
-    heads::load(heads, &mut flat);
-    let r = server::create(&mut flat, bytes, count, marks, name, type_code, value, out);
-    heads::store(r.number, &flat, heads);
-    r
+    heads::change(
+        heads,
+        &mut |flat: &mut [u16]| server::create(
+            flat, bytes, count, marks, name, type_code, value, out,
+        ),
+    )
 }
 
 pub fn nt2_write(
@@ -126,38 +134,39 @@ pub fn nt2_write(
         ≡ heads_step (lent heads.old bytes.old count.old marks.now)
         (lent_call (local_write id value.now) out.old) }
 {
-    if heads.len() < table::MAX_ENTRIES {
-        return answer::ON_UNSOUND;
-    }
-    let mut flat = [0u16; table::HEADS_SIZE];
-    heads::load(heads, &mut flat);
-    let r = flat::write_flat(&mut flat, bytes, count, marks, id, value, out);
-    heads::store(r.number, &flat, heads);
-    r
+    heads::change(
+        heads,
+        &mut |flat: &mut [u16]| server::write(flat, bytes, *count, marks, id, value, out),
+    )
 }
 
+#[tactic(auto, using(crate::proofs::Calls::few_read))]
 pub fn nt2_read(heads: &[Head], bytes: &[u8], count: &mut u16, id: u16) -> ScalarAnswer
     ensures { EntryRead (lent_table heads.now bytes.now count.old) id result
         (lent_table heads.now bytes.now count.new) }
 {
-    if heads.len() < table::MAX_ENTRIES {
-        return flat::ON_UNSOUND;
-    }
-    let mut flat = [0u16; table::HEADS_SIZE];
-    heads::load(heads, &mut flat);
-    flat::read_flat(&flat, bytes, count, id)
+    heads::read(
+        heads,
+        &mut |flat: &[u16]| {
+            let table = Table {
+                heads: flat,
+                bytes,
+                count: *count,
+            };
+            flat::read(table, id)
+        },
+    )
 }
 
+#[tactic(auto, using(crate::proofs::Calls::few_copy_started))]
 pub fn nt2_copy_fresh(heads: &[Head], bytes: &[u8], count: &mut u16) -> Answer
     ensures { CopyStarted (lent_table heads.now bytes.now count.old) result
         (lent_table heads.now bytes.now count.new) }
 {
-    if heads.len() < table::MAX_ENTRIES {
-        return answer::ON_UNSOUND;
-    }
-    let mut flat = [0u16; table::HEADS_SIZE];
-    heads::load(heads, &mut flat);
-    flat::copy_fresh_flat(&flat, bytes, count)
+    heads::read(
+        heads,
+        &mut |flat: &[u16]| start::copy_fresh(flat, bytes, count),
+    )
 }
 
 pub fn nt2_copy_receive(
@@ -169,14 +178,10 @@ pub fn nt2_copy_receive(
     ensures { heads_copied result (lent_table heads.new bytes.new count.new)
         ≡ heads_copy_message (lent_table heads.old bytes.old count.old) message.now }
 {
-    if heads.len() < table::MAX_ENTRIES {
-        return client::ON_UNSOUND;
-    }
-    let mut flat = [0u16; table::HEADS_SIZE];
-    heads::load(heads, &mut flat);
-    let r = client::copy_receive(&mut flat, bytes, count, message);
-    heads::store(r.number, &flat, heads);
-    r
+    heads::change(
+        heads,
+        &mut |flat: &mut [u16]| client::copy_receive(flat, bytes, count, message),
+    )
 }
 
 // ---- messages, with no table
@@ -196,16 +201,16 @@ pub fn nt2_encode(
         ≡ write_with_place (check (lent_fields kind revision name.now type_code id entry_number value.now))
         out.old }
 {
-    writer::write_message(
+    let fields = MessageFields {
         kind,
         revision,
         name,
         type_code,
         id,
-        entry_number,
+        number: entry_number,
         value,
-        out,
-    )
+    };
+    writer::write_message(fields, out)
 }
 
 // One message's fields, any kind and ID; an update's type is given.
