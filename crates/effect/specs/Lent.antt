@@ -23,7 +23,10 @@ abbrev pub outcome_effect : Result Outcome Refusal → ServerMemory → Effect
 outcome_effect (Ok outcome) memory = record { number = outcome_number outcome; taken = 0; memory = memory }
 outcome_effect (Err refusal) memory = record { number = refusal_number refusal; taken = 0; memory = memory }
 
+abbrev pub done_number : Result (Unit {0}) Refusal → ℕ
+done_number (Ok tt) = done
+done_number (Err refusal) = refusal_number refusal
+
 -- and is done or refused
 abbrev pub done_effect : Result (Unit {0}) Refusal → ServerMemory → Effect
-done_effect (Ok tt) memory = record { number = done; taken = 0; memory = memory }
-done_effect (Err refusal) memory = record { number = refusal_number refusal; taken = 0; memory = memory }
+done_effect r memory = record { number = done_number r; taken = 0; memory = memory }

@@ -9,6 +9,9 @@ use lib.ListN.{length, drop, length-drop}
 use lib.Seq.{drop-drop, drop-length}
 use borrow.Author.Tests.{le-leb, lt-leb, eq-eqb, ne_eqb}
 use Rattle.field.specs.Answer.{incomplete}
+use Rattle.field.specs.Refusal.{refusal_number}
+use Rattle.field.specs.declared.Refusal.{Refusal}
+use Rattle.field.specs.declared.Refusal.TheVariants as R
 use Rattle.field.proofs.ChoiceLaws.{pick_true, pick_false}
 use Rattle.answer.specs.Answers.{goes_on}
 use Rattle.soundness.specs.Sound.{connections}
@@ -17,6 +20,9 @@ use Rattle.protocol.specs.Step.{ServerMemory}
 use Rattle.protocol.specs.Run.{memory_after_run}
 use Rattle.protocol.specs.Kept.{SoundMemory}
 use Rattle.protocol.specs.Effect.{Effect}
+use Rattle.effect.specs.Lent.{outcome_number}
+use Rattle.effect.specs.declared.Outcome.{Outcome}
+use Rattle.effect.specs.declared.Outcome.TheVariants as O
 use Rattle.line_record.specs.Held.{message_effect, Kept, Settled, keeping, is_closed, leaving, settle}
 use Rattle.line_record.proofs.HeldLaws.{effect_sound, effect_takes}
 use Rattle.line_record.proofs.RunLaws.{no_bytes}
@@ -62,6 +68,34 @@ module _ (most limit : ℕ) (mem : ServerMemory) (c : ℕ) (held : List ℕ) (so
           rw made
           (ap (λ (s : Settled). s.kept)
           (pick_true _ _ (le-leb 1 (length held) some) ∙ pick_false _ _ judged ∙ pick_true _ _ (rw made at g) ∙ pick_false _ _ (rw made at k)))
+
+-- ---- what the code answers
+
+-- no other refusal is the number 1
+pub cut_only : (r : Refusal) → refusal_number r ≡ incomplete → r ≡ R.Incomplete
+cut_only R.Incomplete e = refl
+cut_only R.ConnectionTooHigh e = absurd (omega (arith, e))
+cut_only R.WrongState e = absurd (omega (arith, e))
+cut_only R.UnknownKind e = absurd (omega (arith, e))
+cut_only R.WrongId e = absurd (omega (arith, e))
+cut_only R.UnknownId e = absurd (omega (arith, e))
+cut_only R.UnknownType e = absurd (omega (arith, e))
+cut_only R.BadBoolean e = absurd (omega (arith, e))
+cut_only R.NotUtf8 e = absurd (omega (arith, e))
+cut_only R.TooLong e = absurd (omega (arith, e))
+cut_only R.TableFull e = absurd (omega (arith, e))
+cut_only R.OutputTooShort e = absurd (omega (arith, e))
+cut_only R.NameTaken e = absurd (omega (arith, e))
+cut_only R.Unsound e = absurd (omega (arith, e))
+cut_only R.BadFilling e = absurd (omega (arith, e))
+
+pub taken_whole : (o : Outcome) → outcome_number o ≡ incomplete → ⊥
+taken_whole O.Done e = omega (arith, e)
+taken_whole O.Ignored e = omega (arith, e)
+
+pub taken_goes_on : (o : Outcome) → goes_on (outcome_number o) ≡ true
+taken_goes_on O.Done = refl
+taken_goes_on O.Ignored = refl
 
 -- ---- the loop
 

@@ -7,6 +7,6 @@ pub returns-then-c-lt-CONNECTIONS : goal.returns-then-c-lt-CONNECTIONS
 unfolding is_closed
 returns-then-c-lt-CONNECTIONS c = rw (lt-ltb _ _ c.if-c-lt-CONNECTIONS.true)
 
-pub returns : goal.returns
+pub returns-else-c-lt-CONNECTIONS : goal.returns-else-c-lt-CONNECTIONS
 unfolding is_closed
-returns c = rw (le-ltb _ _ c.if-c-lt-CONNECTIONS.false)
+returns-else-c-lt-CONNECTIONS c = rw (le-ltb _ _ c.if-c-lt-CONNECTIONS.false)

@@ -4,11 +4,11 @@ use Rattle.field.specs.Choice.{pick}
 use Rattle.line_record.specs.Held.{message_effect}
 use Rattle.gather.proofs.message.Goals as goal
 
-pub returns-then-c-lt-CONNECTIONS : goal.returns-then-c-lt-CONNECTIONS
+pub returns-then-c-lt-CONNECTIONS-clause-effect : goal.returns-then-c-lt-CONNECTIONS-clause-effect
 unfolding message_effect pick
-returns-then-c-lt-CONNECTIONS c = rw (lt-ltb _ _ c.if-c-lt-CONNECTIONS.true) c.receive.ensures
+returns-then-c-lt-CONNECTIONS-clause-effect c = rw (lt-ltb _ _ c.if-c-lt-CONNECTIONS.true) c.receive.ensures.effect
 
-pub returns : goal.returns
+pub returns-clause-effect : goal.returns-clause-effect
 unfolding message_effect pick
-returns c =
-    rw (le-ltb _ _ c.if-c-lt-CONNECTIONS.false) (c.receive_local.ensures c.args.marks.now c.requires.marks)
+returns-clause-effect c =
+    rw (le-ltb _ _ c.if-c-lt-CONNECTIONS.false) (c.receive_local.ensures c.args.memory.now.marks.now c.requires.marks)
