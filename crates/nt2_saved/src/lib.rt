@@ -8,17 +8,24 @@ ghost use Rattle.nt2_saved.specs.Lent.{heads_save};
 
 use answer::Answer;
 use heads::Head;
+use table::Table;
 
+#[tactic(auto, using(crate::proofs::CallLaws::few_saved))]
 pub fn nt2_save(heads: &[Head], bytes: &[u8], count: &u16, out: &mut [u8]) -> Answer
     ensures { save_result result out.new
         ≡ heads_save (lent_table heads.now bytes.now count.now) out.old }
 {
-    if heads.len() < table::MAX_ENTRIES {
-        return answer::ON_UNSOUND;
-    }
-    let mut flat = [0u16; table::HEADS_SIZE];
-    heads::load(heads, &mut flat);
-    save::save(&flat, bytes, count, out)
+    heads::read(
+        heads,
+        &mut |flat: &[u16]| {
+            let table = Table {
+                heads: flat,
+                bytes,
+                count: *count,
+            };
+            save::save(table, out)
+        },
+    )
 }
 
 pub fn nt2_load(
@@ -31,12 +38,8 @@ pub fn nt2_load(
     ensures { heads_loaded result (lent_table heads.new bytes.new count.new)
         ≡ heads_load (lent heads.old bytes.old count.old marks.now) saved.now }
 {
-    if heads.len() < table::MAX_ENTRIES {
-        return answer::ON_UNSOUND;
-    }
-    let mut flat = [0u16; table::HEADS_SIZE];
-    heads::load(heads, &mut flat);
-    let r = load::load(&mut flat, bytes, count, marks, saved);
-    heads::store(r.number, &flat, heads);
-    r
+    heads::change(
+        heads,
+        &mut |flat: &mut [u16]| load::load(flat, bytes, count, marks, saved),
+    )
 }

@@ -1,9 +1,6 @@
-use Rattle.std.proofs.Common.{arith}
+use Rattle.std.proofs.Common.{rules, inl, inr}
 use Rattle.nt2_saved.proofs.CallLaws.{few_loaded, loaded_call}
 use Rattle.nt2_saved.proofs.nt2_load.Goals as goal
 
-pub returns-then-heads-lt-MAX_ENTRIES : goal.returns-then-heads-lt-MAX_ENTRIES
-returns-then-heads-lt-MAX_ENTRIES c = few_loaded _ _ _ c.if-heads-lt-MAX_ENTRIES.true _ _
-
 pub returns : goal.returns
-returns c = loaded_call _ _ _ c.load.ensures c.if-heads-lt-MAX_ENTRIES.false (omega arith) _ _ (omega arith) _ _ _ _ _ _ _ c.load-r.ensures c.store.ensures
+returns c = elim c.change.ensures [ inl few ↦ search (rules, few_loaded) | inr m ↦ loaded_call _ _ m.flat _ _ _ _ _ _ _ m.changed m.unchanged m.past (search rules) ]
