@@ -2,6 +2,7 @@
 use crate::print;
 use answer::Answer;
 use std::io;
+use writer::MessageFields;
 
 // What every byte of a lent output is.
 const LENT: u8 = 0xA5;
@@ -39,17 +40,17 @@ fn show(rt: &impl Print, out: &[u8], sent: usize, update_type: u8) -> io::Result
 fn write(s: &[u8], out: &mut [u8]) -> Answer {
     let room = usize::from(script::number(s, 2)).min(out.len());
     let name_length = usize::from(script::octet(s, 4));
-    let fields = script::after(s, 5);
-    writer::write_message(
-        script::octet(s, 0),
-        REVISION,
-        script::before(fields, name_length),
-        script::octet(s, 1),
-        ID,
-        NUMBER,
-        script::after(fields, name_length),
-        &mut out[..room],
-    )
+    let lent = script::after(s, 5);
+    let fields = MessageFields {
+        kind: script::octet(s, 0),
+        revision: REVISION,
+        name: script::before(lent, name_length),
+        type_code: script::octet(s, 1),
+        id: ID,
+        number: NUMBER,
+        value: script::after(lent, name_length),
+    };
+    writer::write_message(fields, &mut out[..room])
 }
 
 pub fn case(rt: &impl Print, s: &[u8]) -> io::Result<()> {
