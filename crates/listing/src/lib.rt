@@ -65,7 +65,7 @@ fn put_messages(memory: &mut Memory, out: &mut [u8], stream: &[u8], text: &mut T
 }
 
 // The whole listing, on lent memory.
-#[tactic(auto, using(digits::proofs::PutLaws::putting), unfolding(crate::specs::Listing::listing_on))]
+#[tactic(auto, using(crate::proofs::MessagesLaws::stream_part, digits::proofs::PutLaws::putting), unfolding(crate::specs::Listing::head_text, crate::specs::Listing::listing_start, crate::specs::Listing::listing_on))]
 fn list_on(
     heads: &mut [u16],
     bytes: &mut [u8],
