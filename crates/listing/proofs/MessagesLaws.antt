@@ -115,9 +115,3 @@ stream_part input n e = go (leb stream_size (length input)) refl
     go false t =
         let l : length input < stream_size = leb-false _ _ t in
         take_all n input (omega arith) ∙ sym (take_all stream_size input (omega arith))
-
--- the head line, and the lines behind it
-pub listing_put : {a b d : Text} (mem start : ServerMemory) (out input stream : List ℕ) → start ≡ listing_start mem → stream ≡ stream_of input
-    → Puts a b head_text → Puts b d (messages_text (length stream) 0 start out stream) → Puts a d (listing_on mem out input)
-unfolding listing_on
-listing_put mem start out input stream s e p q = rw (← s, ← e) (puts_next p q)

@@ -2,10 +2,9 @@
 #![tactic(auto)]
 
 ghost use Rattle.std.specs.Prelude.{◌≡◌, ◌≤◌, length};
-ghost use Rattle.protocol.specs.Lent.{lent_server};
-ghost use Rattle.protocol.specs.Memory.{server_of};
+ghost use Rattle.protocol.specs.Memory.{SameMemory, server_of};
 ghost use Rattle.digits.specs.Put.{Put, Puts};
-ghost use Rattle.listing.specs.Listing.{line_text, end_text, messages_text, stream_of, listing_on, listing_text};
+ghost use Rattle.listing.specs.Listing.{line_text, end_text, messages_text, listing_start, listing_on, listing_text};
 
 use answer::Answer;
 use digits::Text;
@@ -64,36 +63,33 @@ fn put_messages(memory: &mut Memory, out: &mut [u8], stream: &[u8], text: &mut T
     put_end(text, offset, *memory.count);
 }
 
-// The whole listing, on lent memory.
-#[tactic(auto, using(crate::proofs::MessagesLaws::stream_part, digits::proofs::PutLaws::putting), unfolding(crate::specs::Listing::head_text, crate::specs::Listing::listing_start, crate::specs::Listing::listing_on))]
-fn list_on(
-    heads: &mut [u16],
-    bytes: &mut [u8],
-    marks: &mut [u8],
-    out: &mut [u8],
-    input: &[u8],
-    text: &mut Text,
-)
-    ensures { Puts text.old text.new
-        (listing_on (lent_server heads.old bytes.old 0 marks.old) out.old input.now) }
+// A fresh table, with connection 0 open.
+#[tactic(auto, unfolding(crate::specs::Listing::listing_start))]
+fn start_listing(memory: &mut Memory)
+    ensures same { SameMemory memory.old memory.new }
+    ensures start { server_of memory.new ≡ listing_start (server_of memory.old) }
 {
-    let mut count: u16 = 0;
-    start::fresh(heads, bytes, &mut count, marks);
+    let heads = &mut *memory.heads;
+    let bytes = &mut *memory.bytes;
+    start::fresh(heads, bytes, memory.count, memory.marks);
+    let count = *memory.count;
     let table = Table {
         heads,
         bytes,
         count,
     };
-    server::change_mark(table, marks, 0, MarkChange::Open);
+    server::change_mark(table, memory.marks, 0, MarkChange::Open);
+}
+
+// The whole listing, on lent memory.
+#[tactic(auto, using(crate::proofs::MessagesLaws::stream_part, digits::proofs::PutLaws::putting), unfolding(crate::specs::Listing::head_text, crate::specs::Listing::listing_on))]
+fn list_on(memory: &mut Memory, out: &mut [u8], input: &[u8], text: &mut Text)
+    ensures { Puts text.old text.new (listing_on (server_of memory.old) out.old input.now) }
+{
+    start_listing(memory);
     text.bytes(b"offset taken answer to sent\n");
     let stream = &input[..input.len().min(STREAM_SIZE)];
-    let mut memory = Memory {
-        heads,
-        bytes,
-        count: &mut count,
-        marks,
-    };
-    put_messages(&mut memory, out, stream, text);
+    put_messages(memory, out, stream, text);
 }
 
 // Puts the listing of the stream at the start of a buffer, as far as there is room, and returns where it ends.
@@ -101,13 +97,14 @@ fn list_on(
 pub fn write_listing(input: &[u8], text: &mut [u8]) -> usize
     ensures { Put text.old 0 (listing_text input.now) text.new result }
 {
-    let mut heads = [0u16; table::HEADS_SIZE];
-    let mut bytes = [0u8; table::BYTES_SIZE];
-    let mut marks = [0u8; soundness::CONNECTIONS];
-    let mut out = [0u8; hello::LONGEST_HELLO];
+    let mut memory = Memory {
+        heads: &mut [0; table::HEADS_SIZE],
+        bytes: &mut [0; table::BYTES_SIZE],
+        count: &mut 0,
+        marks: &mut [0; soundness::CONNECTIONS],
+    };
+    let mut out = [0; hello::LONGEST_HELLO];
     let mut text = Text { bytes: text, end: 0 };
-    list_on(
-        &mut heads, &mut bytes, &mut marks, &mut out, input, &mut text,
-    );
+    list_on(&mut memory, &mut out, input, &mut text);
     text.end
 }
