@@ -7,7 +7,7 @@ pub fn copied(rt: &impl Print, s: &[u8]) -> io::Result<Memory> {
     let mut copy = Memory::fresh_copy();
     let mut rest = s;
     while !rest.is_empty() {
-        let taken = copy.receive(rest);
+        let taken = copy.copy_receive(rest);
         if taken == 0 {
             script::word(rt, b"refused\n")?;
             break;

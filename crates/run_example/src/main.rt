@@ -8,8 +8,9 @@ mod memory;
 
 use answer::Answer;
 use calls::Request;
-use memory::Server;
+use memory::Memory;
 use std::io;
+use std::ops::Range;
 
 // So many lines in all.
 const LINES: u64 = 765;
@@ -41,28 +42,22 @@ impl<'a> Lines<'a> {
     }
 }
 
-// Where in the output stands what was sent to the client since its last hello.
-#[derive(Clone, Copy)]
-struct Span {
-    start: usize,
-    end: usize,
-}
-
 // A run for one client, by its bit among the recipients.
 #[derive(Drop)]
 struct Run {
-    server: Server,
+    server: Memory,
     output: [u8; OUTPUT_SIZE],
-    kept: Span,
+    // where in it stands what was sent to the client since its last hello
+    kept: Range<usize>,
     bit: u16,
 }
 
 impl Run {
     fn new(bit: u16) -> Run {
         Run {
-            server: Server::stale(),
+            server: Memory::stale(),
             output: [0xA5; OUTPUT_SIZE],
-            kept: Span { start: 0, end: 0 },
+            kept: 0..0,
             bit,
         }
     }
@@ -110,7 +105,7 @@ fn run_for(rt: &impl Print, s: &[u8], client: usize, bit: u16) -> io::Result<()>
     let mut run = Run::new(bit);
     run.play(rt, s)?;
     let copy = copies::copied(rt, run.sent())?;
-    copies::compare(rt, client, run.server.memory, copy)
+    copies::compare(rt, client, run.server, copy)
 }
 
 fn main(rt: HostRuntime) -> io::Result<()> {
