@@ -6,23 +6,13 @@ use Prim.Native.Nat.{ℕ, zero, suc, ◌+◌, ◌-◌, ◌≤◌, ◌<◌, min}
 use native.Mathlib.Omega.{arith}
 use lib.Dec.{leb, ltb, eqb}
 use lib.ListN.{length, take, drop, length-drop}
-use lib.Seq.{drop-drop, take_all}
+use lib.Seq.{take_all}
 use borrow.Author.Tests.{leb-true, leb-false, lt-ltb, le-ltb, eq-eqb, ne_eqb, eqb-false}
 use Rattle.field.specs.Choice.{pick}
-use Rattle.field.specs.Place.{WithPlace}
-use Rattle.field.proofs.OctetsLaws.{rest_all}
-use Rattle.table.specs.Table.{max_entries}
-use Rattle.answer.specs.declared.Answer.{Answer}
-use Rattle.protocol.specs.Judge.{client_message}
-use Rattle.protocol.specs.Place.{step_with_place}
-use Rattle.protocol.specs.Lent.{lent_call, answered}
 use Rattle.field.proofs.ChoiceLaws.{pick_true, pick_false}
 use Rattle.protocol.specs.Step.{ServerMemory, CallResult}
-use Rattle.digits.specs.Put.{Puts}
-use Rattle.digits.specs.declared.Text.{Text}
-use Rattle.digits.proofs.PutLaws.{puts_next}
 use Rattle.protocol.proofs.ProgressLaws.{call_progress}
-use Rattle.listing.specs.Listing.{head_text, line_of, end_text, message_step, messages_text, listing_start, stream_size, stream_of, listing_on}
+use Rattle.listing.specs.Listing.{line_of, end_text, message_step, messages_text, stream_size, stream_of}
 use Rattle.field.proofs.ChoiceLaws.{pick_cong}
 
 -- what stands behind a message's line

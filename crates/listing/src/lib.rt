@@ -104,7 +104,10 @@ pub fn write_listing(input: &[u8], text: &mut [u8]) -> usize
         marks: &mut [0; soundness::CONNECTIONS],
     };
     let mut out = [0; hello::LONGEST_HELLO];
-    let mut text = Text { bytes: text, end: 0 };
+    let mut text = Text {
+        bytes: text,
+        end: 0,
+    };
     list_on(&mut memory, &mut out, input, &mut text);
     text.end
 }

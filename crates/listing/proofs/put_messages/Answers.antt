@@ -1,4 +1,4 @@
-use Rattle.std.proofs.Common.{◌≡◌, ◌<◌, length, ap, length-drop, arith, rules}
+use Rattle.std.proofs.Common.{◌<◌, length, ap, length-drop, arith, rules}
 use Rattle.field.specs.Place.{WithPlace}
 use Rattle.protocol.specs.Step.{CallResult}
 use Rattle.digits.proofs.PutLaws.{leads_next}
