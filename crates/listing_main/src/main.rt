@@ -6,14 +6,10 @@ use std::io;
 // Room for a line of 25 bytes for each of 4,096 messages, and for the head line and the end line.
 const TEXT_SIZE: usize = 102500;
 
-fn show(rt: &impl Print, input: &[u8], text: &mut [u8]) -> io::Result<()> {
-    let end = listing::write_listing(input, text);
-    rt.write_all(&text[0..end])
-}
-
 fn main(rt: HostRuntime) -> io::Result<()> {
     let mut input = [0u8; listing::STREAM_SIZE];
     let n = script::read_full(&mut rt.stdin(), &mut input)?;
     let mut text = [0u8; TEXT_SIZE];
-    show(&rt, &input[..n], &mut text)
+    let end = listing::write_listing(&input[..n], &mut text);
+    rt.write_all(&text[..end])
 }

@@ -8,10 +8,6 @@ mod writing;
 
 use std::io;
 
-const SPACE: u8 = 32;
-
-const NEWLINE: u8 = 10;
-
 // What stands before the bytes, by the word that the line begins with: allowed: the one ID; cut, message: the type of
 // updates; number, passed, text: nothing; value: its type; write: kind, type, room (2), the name's length and the name.
 fn case(rt: &impl Print, first: u8, s: &[u8]) -> io::Result<()> {
@@ -30,18 +26,14 @@ fn case(rt: &impl Print, first: u8, s: &[u8]) -> io::Result<()> {
 
 fn line(rt: &impl Print, s: &[u8], bytes: &mut [u8]) -> io::Result<()> {
     script::word(rt, s)?;
-    let start = script::find(s, 0, SPACE);
-    let n = script::decode(s, start, 0, bytes);
-    case(rt, script::octet(s, 0), &bytes[0..n])?;
+    let n = script::decode(s, script::find(s, 0, b' '), 0, bytes);
+    case(rt, script::octet(s, 0), &bytes[..n])?;
     script::end_line(rt)
 }
 
 fn run(rt: &impl Print, s: &[u8], bytes: &mut [u8]) -> io::Result<()> {
-    let mut at = 0;
-    while at < s.len() {
-        let end = script::find(s, at, NEWLINE);
-        line(rt, &s[at..end], bytes)?;
-        at = end + 1;
+    for ended in s.split_inclusive(|&b| b == b'\n') {
+        line(rt, ended.strip_suffix(b"\n").unwrap_or(ended), bytes)?;
     }
     Ok(())
 }

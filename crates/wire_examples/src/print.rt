@@ -1,114 +1,62 @@
 // Answers on standard output.
-use field::Parsed;
-use message::{
-    ASSIGNMENT, AssignmentRead, Decoded, HELLO, HELLO_COMPLETE, KEEP_ALIVE, UNSUPPORTED, UPDATE,
-};
-use script::{figure, word};
+ghost use Rattle.std.specs.Prelude.{◌^◌, ◌<◌};
+ghost use Rattle.message.specs.Reader.{taken_of};
+
+use field::Fault;
+use message::{Decoded, KIND_SIZE, Kind, REVISION_LENGTH};
 use std::io;
-use std::num::wrapping_add_usize;
 
 pub fn told(rt: &impl Print, b: bool) -> io::Result<()> {
     if b {
-        word(rt, b": yes")
+        print!(rt; ": yes")
     } else {
-        word(rt, b": no")
+        print!(rt; ": no")
     }
-}
-
-pub fn number(rt: &impl Print, n: u16) -> io::Result<()> {
-    figure(rt, n as usize)
 }
 
 // A refusal's number, and its place.
-pub fn refused(rt: &impl Print, answer: u8, place: usize) -> io::Result<()> {
-    word(rt, b": refused")?;
-    figure(rt, answer as usize)?;
-    figure(rt, place)
+pub fn refused(rt: &impl Print, number: u8, place: usize) -> io::Result<()> {
+    print!(rt; ": refused {number} {place}")
 }
 
 // A message's kind, and its own length.
-fn taken(rt: &impl Print, kind: u8, n: usize) -> io::Result<()> {
-    word(rt, b": kind")?;
-    figure(rt, kind as usize)?;
-    figure(rt, n)
+fn taken(rt: &impl Print, kind: Kind, size: usize) -> io::Result<()> {
+    print!(rt; ": kind {} {size}", u8::from(kind))
 }
 
-fn revision(rt: &impl Print, kind: u8, n: u16) -> io::Result<()> {
-    taken(rt, kind, 3)?;
-    number(rt, n)
-}
-
-fn assignment(
-    rt: &impl Print,
-    name_length: usize,
-    type_code: u8,
-    id: u16,
-    n: u16,
-    value_length: usize,
-) -> io::Result<()> {
-    taken(
-        rt,
-        ASSIGNMENT,
-        wrapping_add_usize(8, wrapping_add_usize(name_length, value_length)),
-    )?;
-    figure(rt, name_length)?;
-    figure(rt, type_code as usize)?;
-    number(rt, id)?;
-    number(rt, n)?;
-    figure(rt, value_length)
-}
-
-fn update(rt: &impl Print, id: u16, n: u16, value_length: usize) -> io::Result<()> {
-    taken(rt, UPDATE, wrapping_add_usize(5, value_length))?;
-    number(rt, id)?;
-    number(rt, n)?;
-    figure(rt, value_length)
+fn revision(rt: &impl Print, kind: Kind, n: u16) -> io::Result<()> {
+    taken(rt, kind, REVISION_LENGTH)?;
+    print!(rt; " {n}")
 }
 
 // The answer to a value.
-pub fn parsed(rt: &impl Print, p: Parsed) -> io::Result<()> {
-    match p {
-        Parsed::Refused(fault) => refused(rt, fault.number, fault.place),
-        Parsed::Taken(n) => {
-            word(rt, b": taken")?;
-            figure(rt, n)
-        }
-    }
-}
-
-// The answer to an assignment.
-pub fn assignment_read(rt: &impl Print, a: AssignmentRead) -> io::Result<()> {
-    match a {
-        AssignmentRead::Refused(fault) => refused(rt, fault.number, fault.place),
-        AssignmentRead::Assignment {
-            name_length,
-            type_code,
-            id,
-            number,
-            value_length,
-        } => assignment(rt, name_length, type_code, id, number, value_length),
+pub fn value(rt: &impl Print, read: Result<usize, Fault>) -> io::Result<()> {
+    match read {
+        Err(fault) => refused(rt, fault.number(), fault.place()),
+        Ok(n) => print!(rt; ": taken {n}"),
     }
 }
 
 // The answer to a message of any kind.
-pub fn decoded(rt: &impl Print, d: Decoded) -> io::Result<()> {
-    match d {
-        Decoded::Refused(fault) => refused(rt, fault.number, fault.place),
-        Decoded::KeepAlive => taken(rt, KEEP_ALIVE, 1),
-        Decoded::Hello(n) => revision(rt, HELLO, n),
-        Decoded::Unsupported(n) => revision(rt, UNSUPPORTED, n),
-        Decoded::HelloComplete => taken(rt, HELLO_COMPLETE, 1),
-        Decoded::Assignment {
-            name_length,
-            type_code,
-            id,
-            number,
-            value_length,
-        } => assignment(rt, name_length, type_code, id, number, value_length),
-        Decoded::Update {
-            id,
-            number,
-            value_length,
-        } => update(rt, id, number, value_length),
+pub fn message(rt: &impl Print, read: Result<Decoded, Fault>) -> io::Result<()>
+    requires { taken_of read < 2 ^ 64 }
+{
+    match read {
+        Err(fault) => refused(rt, fault.number(), fault.place()),
+        Ok(Decoded::KeepAlive) => taken(rt, Kind::KeepAlive, KIND_SIZE),
+        Ok(Decoded::Hello(n)) => revision(rt, Kind::Hello, n),
+        Ok(Decoded::Unsupported(n)) => revision(rt, Kind::Unsupported, n),
+        Ok(Decoded::HelloComplete) => taken(rt, Kind::HelloComplete, KIND_SIZE),
+        Ok(Decoded::Assignment(a)) => {
+            taken(rt, Kind::Assignment, a.size())?;
+            print!(rt;
+                " {} {} {} {} {}",
+                a.name_length, a.type_code, a.id, a.number, a.value_length
+            )
+        }
+        Ok(Decoded::Update(u)) => {
+            taken(rt, Kind::Update, u.size())?;
+            print!(rt; " {} {} {}", u.id, u.number, u.value_length)
+        }
     }
 }

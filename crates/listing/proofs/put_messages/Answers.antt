@@ -1,32 +1,16 @@
-use Rattle.std.proofs.Common.{arith}
-use Rattle.listing.proofs.MessagesLaws.{leads_start, leads_on, leads_end, leads_refused, step_of, step_fits}
+use Rattle.std.proofs.Common.{◌<◌, length, ap, length-drop, arith, rules}
+use Rattle.field.specs.Place.{WithPlace}
+use Rattle.protocol.specs.Step.{CallResult}
+use Rattle.digits.proofs.PutLaws.{leads_next}
+use Rattle.listing.proofs.MessagesLaws.{messages_next, takes_left}
 use Rattle.listing.proofs.put_messages.Goals as goal
 
-pub loop-offset-init : goal.loop-offset-init
-loop-offset-init c = record { in_range = omega arith; leads = leads_start _ _ _ _ _ }
-
-pub returns-then-taken-eq0 : goal.returns-then-taken-eq0
-returns-then-taken-eq0 c =
-    let step = step_of c.args.stream.now c.loop-offset.offset _ _ _ _ _ c.receive-a.ensures in
-    leads_refused c.loop-offset.invariant.leads _ step c.loop-offset-test.true _ _ c.put_line-end.ensures c.if-taken-eq0.true _ _ c.put_end.ensures
-
-pub overflow_add-offset : goal.overflow_add-offset
-overflow_add-offset c =
-    let step = step_of c.args.stream.now c.loop-offset.offset _ _ _ _ _ c.receive-a.ensures in
-    let fits = step_fits c.args.stream.now _ _ c.loop-offset.offset _ step in
-    omega arith
-
-pub loop-offset-smaller : goal.loop-offset-smaller
-loop-offset-smaller c =
-    let step = step_of c.args.stream.now c.loop-offset.offset _ _ _ _ _ c.receive-a.ensures in
-    let fits = step_fits c.args.stream.now _ _ c.loop-offset.offset _ step in
-    omega arith
-
-pub loop-offset-preserved : goal.loop-offset-preserved
-loop-offset-preserved c =
-    let step = step_of c.args.stream.now c.loop-offset.offset _ _ _ _ _ c.receive-a.ensures in
-    let fits = step_fits c.args.stream.now _ _ c.loop-offset.offset _ step in
-    record { in_range = omega arith; leads = leads_on c.loop-offset.invariant.leads _ step c.loop-offset-test.true _ _ c.put_line-end.ensures c.if-taken-eq0.false }
-
-pub returns : goal.returns
-returns c = leads_end c.loop-offset.invariant.leads c.loop-offset-test.false _ _ c.put_end-2.ensures
+pub loop-left-preserved : goal.loop-left-preserved
+loop-left-preserved c =
+    let step = ap (λ (r : WithPlace CallResult). r.result) c.receive-a.ensures.step in
+    let some : 0 < length c.loop-left.left.now = search rules in
+    let next = messages_next c.loop-left.offset _ c.loop-left.out c.loop-left.left.now _ step some c.if-a-eq0.false in
+    record {
+      place = rw c.rest-left.ensures (simp length-drop (omega (arith, takes_left c.loop-left.offset _ c.loop-left.out c.loop-left.left.now _ step some)));
+      leads = rw c.rest-left.ensures (leads_next (rw next at c.loop-left.invariant.leads) c.put_line.ensures);
+    }

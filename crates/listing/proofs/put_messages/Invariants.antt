@@ -1,14 +1,16 @@
--- The lines so far lead to those that are left.
-use Rattle.std.proofs.Common.{◌-◌, ◌≤◌, length}
-use Rattle.protocol.specs.Lent.{server_memory}
-use Rattle.listing.proofs.MessagesLaws.{LeadsTo}
+use Rattle.std.proofs.Common.{◌≡◌, ◌+◌, length}
+use Rattle.protocol.specs.Memory.{server_of}
+use Rattle.digits.proofs.PutLaws.{Leads}
+use Rattle.listing.specs.Listing.{messages_text}
 use Rattle.listing.proofs.put_messages.Given as goal
 
-abbrev pub invariant-loop-offset : goal.invariant-loop-offset
-invariant-loop-offset l = record {
-  in_range : l.offset ≤ length l.stream;
-  leads : LeadsTo l.stream (server_memory l.initial.heads l.initial.bytes l.initial.count l.initial.marks) l.initial.out l.initial.text l.at (server_memory l.heads l.bytes l.count l.marks) l.out l.text l.end l.offset;
+abbrev pub invariant-loop-left : goal.invariant-loop-left
+invariant-loop-left l = record {
+  place : l.offset + length l.left ≡ length l.stream;
+  leads : Leads l.initial.text l.text
+      (messages_text (length l.stream) 0 (server_of l.initial.memory) l.initial.out l.stream)
+      (messages_text (length l.left) l.offset (server_of l.memory) l.out l.left);
 }
 
-abbrev pub decreases-loop-offset : goal.decreases-loop-offset
-decreases-loop-offset l = length l.stream - l.offset
+abbrev pub decreases-loop-left : goal.decreases-loop-left
+decreases-loop-left l = length l.left
