@@ -78,7 +78,7 @@ fn why_taken(table: SoundTable, m: &[u8], decision: Decision) -> Reason
 pub fn why(table: Table, marks: &[u8], c: usize, m: &[u8]) -> Reason
     ensures { result ≡ why max_entries (beside_marks (memory_of table.entry) marks.now) c m.now }
 {
-    let Some(table) = server::judged(table, marks) else {
+    let Some(table) = server::sound(table, marks) else {
         return Reason::Refused(Fault::new(Refusal::Unsound, 0));
     };
     match judge::judge_client_message(table, marks, c, m) {
