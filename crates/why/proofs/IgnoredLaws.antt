@@ -1,5 +1,5 @@
 -- A message that is ignored can be read again.
-use Rattle.std.specs.Prelude.{Ok, Err, Result, true, false, ◌&&◌, ◌<◌, Option, Some, None}
+use Rattle.std.specs.Prelude.{Ok, Err, Result, true, false, ◌&&◌, ◌<◌, Some, None}
 use Rattle.std.specs.Option.{unwrap_or}
 use Rattle.message.specs.Read.{AssignmentRead, UpdateRead}
 use mathlib.Core.Path.{◌≡◌, refl, sym, ap, subst, ◌∙◌}
@@ -25,16 +25,13 @@ use Rattle.table.proofs.NamesLaws.{holder_most}
 use Rattle.table.proofs.TabulateLaws.{length_entries, entry_get}
 use Rattle.places.specs.MessageFails.{name_length_in, update_id_in}
 use Rattle.reason.specs.Checks.{received_in}
-use Rattle.reason.specs.declared.Reason.TheVariants.{KeepAlive, NameHeld}
+use Rattle.reason.specs.declared.Reason.TheVariants.{Refused, KeepAlive, NameHeld}
 use Rattle.recipients.specs.Recipients.{Recipients}
 use Rattle.protocol.specs.Judge.{client_message, Verdict, refuse, ignore, accept_hello, unsupported_revision, store_new, store_update, new_id, judge_hello, judge_assignment, judge_update, judge_kind, judge_message, judge}
 use Rattle.judge.specs.Decision.{Decides, verdict_of}
 use Rattle.judge.specs.declared.Decision.{Decision}
 use Rattle.judge.specs.declared.Decision.TheVariants as D
-use Rattle.soundness.specs.Sound.{sound_table, sound_marks, connections}
-use Rattle.soundness.proofs.ReadableLaws.{sixteen_marks}
-use Rattle.table.specs.Memory.{memory_of}
-use Rattle.table.specs.declared.Table.{Table}
+use Rattle.soundness.specs.Sound.{sound_table, sound_marks}
 use Rattle.protocol.specs.Lent.{beside_marks}
 use Rattle.reason.specs.Reason.{refused_at}
 use Rattle.reason.specs.Why.{why}
@@ -122,41 +119,34 @@ module _ (limit : ℕ) (es : List Entry) (m : List ℕ) where
       go : WhenIgnored (length es) m (ignore taken) → ReadAgain (length es) m
       go (WhenIgnored.ignored h) = h
 
--- ---- what the reason is, by the verdict on the table that was found sound
+-- ---- what the reason is, by the test of soundness and the verdict
 
-module _ (lent judged : Table) (same : judged ≡ lent) (marks : List ℕ) (sound : (sound_table max_entries (memory_of lent) && sound_marks marks) ≡ true) (c : ℕ) (m : List ℕ) where
+module _ (table : TableMemory) (marks : List ℕ) (c : ℕ) (m : List ℕ) where
   abbrev verdict : Verdict
-  verdict = judge max_entries (entries_of (memory_of judged)) marks (client_message c m)
+  verdict = judge max_entries (entries_of table) marks (client_message c m)
 
-  pub enough_marks : connections ≤ length marks
-  enough_marks = sixteen_marks (memory_of lent) marks sound
+  pub unsound_said : (sound_table max_entries table && sound_marks marks) ≡ false → refused_at unsound 0 ≡ why max_entries (beside_marks table marks) c m
+  unsound_said h = sym (why_explained max_entries (beside_marks table marks) c m ∙ pick_false _ _ h)
 
-  pub why_decided : (d : Result Decision Fault) → Decides judged.count c m d verdict
-      → explain (entries_of (memory_of judged)) (get_or m 0 0) m (verdict_of c m d) ≡ why max_entries (beside_marks (memory_of lent) marks) c m
-  why_decided d h =
+  pub decided_said : (d : Result Decision Fault) → (sound_table max_entries table && sound_marks marks) ≡ true → Decides table.count c m d verdict
+      → explain (entries_of table) (get_or m 0 0) m (verdict_of c m d) ≡ why max_entries (beside_marks table marks) c m
+  decided_said d h decides =
       sym
-      (why_explained max_entries (beside_marks (memory_of lent) marks) c m
-      ∙ pick_true _ _ sound
-      ∙ ap (λ (t : Table). explain (entries_of (memory_of t)) (get_or m 0 0) m (judge max_entries (entries_of (memory_of t)) marks (client_message c m))) (sym same)
-      ∙ ap (explain (entries_of (memory_of judged)) (get_or m 0 0) m) (sym h.verdict))
+      (why_explained max_entries (beside_marks table marks) c m
+      ∙ pick_true _ _ h
+      ∙ ap (explain (entries_of table) (get_or m 0 0) m) (sym decides.verdict))
 
-pub explainable : (table : TableMemory) (marks : List ℕ) (c : ℕ) (m : List ℕ) (d : Decision)
-    → Decides table.count c m (Ok d) (judge max_entries (entries_of table) marks (client_message c m)) → Explainable table.count m d
-explainable table marks c m (D.Ignore taken) h =
-    subst (λ (n : ℕ). ReadAgain n m) (length_entries table) (read_again max_entries (entries_of table) m marks c taken (sym h.verdict))
-explainable table marks c m D.AcceptHello h = tt
-explainable table marks c m D.UnsupportedRevision h = tt
-explainable table marks c m (D.StoreNew read) h = tt
-explainable table marks c m (D.StoreUpdate read) h = h.performable.0
+  pub refused_said : (fault : Fault) → (sound_table max_entries table && sound_marks marks) ≡ true → Decides table.count c m (Err fault) verdict
+      → Refused fault ≡ why max_entries (beside_marks table marks) c m
+  refused_said fault h decides = decided_said (Err fault) h decides
 
--- past the test of soundness
-pub unsound_said : (lent : Table) (marks : List ℕ) (c : ℕ) (m : List ℕ) → ((sound_table max_entries (memory_of lent) && sound_marks marks) ≢ true)
-    → refused_at unsound 0 ≡ why max_entries (beside_marks (memory_of lent) marks) c m
-unsound_said lent marks c m other = sym (why_explained max_entries (beside_marks (memory_of lent) marks) c m ∙ pick_false _ _ (is_false _ other))
-  where
-    is_false : (b : Bool) → b ≢ true → b ≡ false
-    is_false true h = absurd (h refl)
-    is_false false h = refl
+  pub explainable : (d : Decision) → Decides table.count c m (Ok d) verdict → Explainable table.count m d
+  explainable (D.Ignore taken) decides =
+      subst (λ (n : ℕ). ReadAgain n m) (length_entries table) (read_again max_entries (entries_of table) m marks c taken (sym decides.verdict))
+  explainable D.AcceptHello decides = tt
+  explainable D.UnsupportedRevision decides = tt
+  explainable (D.StoreNew read) decides = tt
+  explainable (D.StoreUpdate read) decides = decides.performable.0
 
 -- ---- what is said of an ignored message, by its kind
 
@@ -164,24 +154,23 @@ pub keep_alive_said : (es : List Entry) (m : List ℕ) → get_or m 0 0 ≡ keep
 unfolding ignored_reason pick
 keep_alive_said es m k = rw k
 
+-- the search's answer, or the count where the name is not held
+searched : (table : TableMemory) (name : List ℕ) → unwrap_or (entry_named name (entries_of table)) table.count ≡ holder name (entries_of table)
+unfolding name_held pick
+searched table name = go (name_held name (entries_of table)) refl
+  where
+    go : (held : Bool) → name_held name (entries_of table) ≡ held → unwrap_or (pick held (Some (holder name (entries_of table))) None) table.count ≡ holder name (entries_of table)
+    go true h = refl
+    go false h = omega (arith, ltb-false _ _ h, holder_most name (entries_of table), length_entries table)
+
+pub searched_fits : (table : TableMemory) (name : List ℕ) (id : ℕ) → id ≡ unwrap_or (entry_named name (entries_of table)) table.count → id ≤ table.count
+searched_fits table name id e = omega (arith, e ∙ searched table name, holder_most name (entries_of table), length_entries table)
+
 module _ (table : TableMemory) (m : List ℕ) where
-  -- the search's answer, or the count where the name is not held
-  pub holder_found_lem : (name : List ℕ) (found : Option ℕ) (id : ℕ) → found ≡ entry_named name (entries_of table) → id ≡ unwrap_or found table.count
-      → id ≡ holder name (entries_of table)
-  unfolding name_held pick
-  holder_found_lem name found id f e = e ∙ rw f (go (name_held name (entries_of table)) refl)
-    where
-      go : (held : Bool) → name_held name (entries_of table) ≡ held → unwrap_or (pick held (Some (holder name (entries_of table))) None) table.count ≡ holder name (entries_of table)
-      go true h = refl
-      go false h = omega (arith, ltb-false _ _ h, holder_most name (entries_of table), length_entries table)
-
-  pub found_fits : (name : List ℕ) (found : Option ℕ) (id : ℕ) → found ≡ entry_named name (entries_of table) → id ≡ unwrap_or found table.count → id ≤ table.count
-  found_fits name found id f e = omega (arith, holder_found_lem name found id f e, holder_most name (entries_of table), length_entries table)
-
-  pub name_said : (found : Option ℕ) (id : ℕ) → get_or m 0 0 ≡ assignment_kind → found ≡ entry_named (name_in (name_length_in m) m) (entries_of table) → id ≡ unwrap_or found table.count
-      → NameHeld id ≡ ignored_reason (entries_of table) (get_or m 0 0) m
+  pub name_said : get_or m 0 0 ≡ assignment_kind
+      → NameHeld (unwrap_or (entry_named (name_in (name_length_in m) m) (entries_of table)) table.count) ≡ ignored_reason (entries_of table) (get_or m 0 0) m
   unfolding ignored_reason pick
-  name_said found id k f e = rw (k, holder_found_lem _ found id f e)
+  name_said k = rw (k, searched table (name_in (name_length_in m) m))
 
   pub number_said : (stored : ℕ) → get_or m 0 0 ≢ keep_alive_kind → get_or m 0 0 ≢ assignment_kind → update_id_in m < table.count → stored ≡ (entry_of table (update_id_in m)).number
       → number_reason stored (received_in m) ≡ ignored_reason (entries_of table) (get_or m 0 0) m

@@ -36,6 +36,7 @@ fn why_number(stored: SequenceNumber, received: SequenceNumber) -> Reason
 }
 
 // A message that is ignored: keep alive, an assignment whose name is held, or an update whose number is not greater.
+#[tactic(auto, using(crate::proofs::IgnoredLaws::keep_alive_said, crate::proofs::IgnoredLaws::number_said))]
 fn why_ignored(table: SoundTable, m: &[u8]) -> Reason
     requires { ReadAgain table.table.count m.now }
     ensures { result ≡ ignored_reason (entries_of (memory_of table.entry.table)) (get_or m.now 0 0) m.now }
@@ -59,6 +60,7 @@ fn why_ignored(table: SoundTable, m: &[u8]) -> Reason
 }
 
 // A message that is not refused.
+#[tactic(auto, using(crate::proofs::IgnoredLaws::stored_said))]
 fn why_taken(table: SoundTable, m: &[u8], decision: Decision) -> Reason
     requires { Explainable table.table.count m.now decision }
     ensures { (c : ℕ) → result ≡ explain (entries_of (memory_of table.entry.table)) (get_or m.now 0 0) m.now (verdict_of c m.now (Ok decision)) }
@@ -75,6 +77,7 @@ fn why_taken(table: SoundTable, m: &[u8], decision: Decision) -> Reason
 }
 
 // A message m of connection c.
+#[tactic(auto, using(crate::proofs::IgnoredLaws::unsound_said, crate::proofs::IgnoredLaws::refused_said, crate::proofs::IgnoredLaws::decided_said, soundness::proofs::ReadableLaws::sixteen_marks))]
 pub fn why(table: Table, marks: &[u8], c: usize, m: &[u8]) -> Reason
     ensures { result ≡ why max_entries (beside_marks (memory_of table.entry) marks.now) c m.now }
 {
