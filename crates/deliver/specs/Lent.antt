@@ -1,6 +1,7 @@
 -- The code's answer, as the definitions have it.
-use Rattle.std.specs.Prelude.{ℕ, List}
-use Rattle.field.specs.Answer.{done}
+use Rattle.std.specs.Prelude.{ℕ, List, Result, Ok, Err}
+use Rattle.field.specs.Refusal.{refusal_number}
+use Rattle.field.specs.declared.Refusal.{Refusal}
 use Rattle.protocol.specs.Step.{ServerMemory}
 use Rattle.delivery.specs.Delivery.{DeliveryResult, at_refusal}
 use Rattle.deliver.specs.declared.Delivered.{Delivered}
@@ -19,12 +20,12 @@ delivered d memory out =
       output = out;
     }
 
--- no message was refused: why the delivery ended, and what was done until then
-abbrev pub ended_answer : (ended messages taken written : ℕ) → Delivered
-ended_answer ended messages taken written =
-    record { number = done; ended = ended; messages = messages; taken = taken; written = written; place = 0 }
-
 -- a refusal, and what was done before it
 abbrev pub refused_answer : (number place messages taken written : ℕ) → Delivered
 refused_answer number place messages taken written =
     record { number = number; ended = at_refusal; messages = messages; taken = taken; written = written; place = place }
+
+-- what comes of a delivery that begins, or is refused at first
+abbrev pub readiness : Result (Unit {0}) Refusal → (refuse : ℕ → DeliveryResult) → DeliveryResult → DeliveryResult
+readiness (Err refusal) refuse next = refuse (refusal_number refusal)
+readiness (Ok _) refuse next = next

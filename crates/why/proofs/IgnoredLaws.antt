@@ -1,32 +1,43 @@
 -- A message that is ignored can be read again.
-use Rattle.std.specs.Prelude.{Ok, Err}
+use Rattle.std.specs.Prelude.{Ok, Err, Result, true, false, ◌&&◌, ◌<◌, Some, None}
+use Rattle.std.specs.Option.{unwrap_or}
 use Rattle.message.specs.Read.{AssignmentRead, UpdateRead}
-use mathlib.Core.Path.{◌≡◌, sym, ap, subst, ◌∙◌}
+use mathlib.Core.Path.{◌≡◌, refl, sym, ap, subst, ◌∙◌}
 use mathlib.Core.Bool.{Bool}
+use mathlib.Core.Logic.{◌≢◌}
 use mathlib.Core.List.{List}
 use Prim.Native.Nat.{ℕ, ◌≤◌}
 use native.Mathlib.Omega.{arith}
 use lib.Dec.{ltb}
 use lib.ListN.{length, get_or}
-use borrow.Author.Tests.{leb-true, ltb-true, eqb-true}
+use borrow.Author.Tests.{leb-true, ltb-true, ltb-false, eqb-true, ne_eqb}
 use Rattle.field.specs.declared.Fault.{Fault}
-use Rattle.field.proofs.ChoiceLaws.{by_test, pick_true}
+use Rattle.field.specs.Answer.{unsound}
+use Rattle.field.specs.Choice.{pick}
+use Rattle.field.proofs.ChoiceLaws.{by_test, pick_true, pick_false}
 use Rattle.message.specs.Layout.{Entry, keep_alive_kind, assignment_kind, update_kind}
-use Rattle.message.specs.Reader.{id_allowed}
+use Rattle.message.specs.Reader.{id_allowed, name_in}
 use Rattle.message.specs.declared.AllowedId.TheVariants.{Only}
 use Rattle.message.proofs.TakenLaws.{AssignmentIs, assignment_is, UpdateIs, update_is}
-use Rattle.table.specs.Table.{TableMemory, default_entry, entries_of, max_entries}
-use Rattle.table.proofs.TabulateLaws.{length_entries}
+use Rattle.table.specs.Names.{holder, name_held, entry_named}
+use Rattle.table.specs.Table.{TableMemory, default_entry, entry_of, entries_of, max_entries}
+use Rattle.table.proofs.NamesLaws.{holder_most}
+use Rattle.table.proofs.TabulateLaws.{length_entries, entry_get}
+use Rattle.places.specs.MessageFails.{name_length_in, update_id_in}
+use Rattle.reason.specs.Checks.{received_in}
+use Rattle.reason.specs.declared.Reason.TheVariants.{Refused, KeepAlive, NameHeld}
 use Rattle.recipients.specs.Recipients.{Recipients}
 use Rattle.protocol.specs.Judge.{client_message, Verdict, refuse, ignore, accept_hello, unsupported_revision, store_new, store_update, new_id, judge_hello, judge_assignment, judge_update, judge_kind, judge_message, judge}
 use Rattle.judge.specs.Decision.{Decides, verdict_of}
 use Rattle.judge.specs.declared.Decision.{Decision}
 use Rattle.judge.specs.declared.Decision.TheVariants as D
-use Rattle.server.proofs.SoundCall.{SoundCall}
+use Rattle.soundness.specs.Sound.{sound_table, sound_marks}
+use Rattle.protocol.specs.Lent.{beside_marks}
+use Rattle.reason.specs.Reason.{refused_at}
 use Rattle.reason.specs.Why.{why}
-use Rattle.reason.specs.Explain.{explain}
+use Rattle.reason.specs.Explain.{explain, ignored_reason, number_reason}
 use Rattle.reason.proofs.ExplainLaws.{why_explained}
-use Rattle.why.specs.Ignored.{ReadAgain}
+use Rattle.why.specs.Ignored.{ReadAgain, Explainable}
 
 data WhenIgnored (count : ℕ) (m : List ℕ) : Verdict → Type 0 where
   ignored : {taken : ℕ} → ReadAgain count m → WhenIgnored count m (ignore taken)
@@ -108,15 +119,66 @@ module _ (limit : ℕ) (es : List Entry) (m : List ℕ) where
       go : WhenIgnored (length es) m (ignore taken) → ReadAgain (length es) m
       go (WhenIgnored.ignored h) = h
 
--- ---- what the reason is, by the decision
+-- ---- what the reason is, by the test of soundness and the verdict
 
-module _ (table : TableMemory) (marks m : List ℕ) (c : ℕ) (s : SoundCall table marks) where
-  pub why_decided : (d e : Decision) → d ≡ e → Decides table.count c m d (judge max_entries (entries_of table) marks (client_message c m))
-      → why max_entries (record { table = table; marks = marks }) c m ≡ explain (entries_of table) (get_or m 0 0) m (verdict_of c m e)
-  why_decided d e is h =
-      why_explained max_entries (record { table = table; marks = marks }) c m ∙ pick_true _ _ s.both ∙ ap (explain (entries_of table) (get_or m 0 0) m) (sym h.verdict ∙ ap (verdict_of c m) is)
+module _ (table : TableMemory) (marks : List ℕ) (c : ℕ) (m : List ℕ) where
+  abbrev verdict : Verdict
+  verdict = judge max_entries (entries_of table) marks (client_message c m)
 
-  pub ignored_again : (d : Decision) (taken : ℕ) → d ≡ D.Ignore taken → Decides table.count c m d (judge max_entries (entries_of table) marks (client_message c m))
-      → ReadAgain table.count m
-  ignored_again d taken is h =
-      subst (λ (n : ℕ). ReadAgain n m) (length_entries table) (read_again max_entries (entries_of table) m marks c taken (sym h.verdict ∙ ap (verdict_of c m) is))
+  pub unsound_said : (sound_table max_entries table && sound_marks marks) ≡ false → refused_at unsound 0 ≡ why max_entries (beside_marks table marks) c m
+  unsound_said h = sym (why_explained max_entries (beside_marks table marks) c m ∙ pick_false _ _ h)
+
+  pub decided_said : (d : Result Decision Fault) → (sound_table max_entries table && sound_marks marks) ≡ true → Decides table.count c m d verdict
+      → explain (entries_of table) (get_or m 0 0) m (verdict_of c m d) ≡ why max_entries (beside_marks table marks) c m
+  decided_said d h decides =
+      sym
+      (why_explained max_entries (beside_marks table marks) c m
+      ∙ pick_true _ _ h
+      ∙ ap (explain (entries_of table) (get_or m 0 0) m) (sym decides.verdict))
+
+  pub refused_said : (fault : Fault) → (sound_table max_entries table && sound_marks marks) ≡ true → Decides table.count c m (Err fault) verdict
+      → Refused fault ≡ why max_entries (beside_marks table marks) c m
+  refused_said fault h decides = decided_said (Err fault) h decides
+
+  pub explainable : (d : Decision) → Decides table.count c m (Ok d) verdict → Explainable table.count m d
+  explainable (D.Ignore taken) decides =
+      subst (λ (n : ℕ). ReadAgain n m) (length_entries table) (read_again max_entries (entries_of table) m marks c taken (sym decides.verdict))
+  explainable D.AcceptHello decides = tt
+  explainable D.UnsupportedRevision decides = tt
+  explainable (D.StoreNew read) decides = tt
+  explainable (D.StoreUpdate read) decides = decides.performable.0
+
+-- ---- what is said of an ignored message, by its kind
+
+pub keep_alive_said : (es : List Entry) (m : List ℕ) → get_or m 0 0 ≡ keep_alive_kind → KeepAlive ≡ ignored_reason es (get_or m 0 0) m
+unfolding ignored_reason pick
+keep_alive_said es m k = rw k
+
+-- the search's answer, or the count where the name is not held
+searched : (table : TableMemory) (name : List ℕ) → unwrap_or (entry_named name (entries_of table)) table.count ≡ holder name (entries_of table)
+unfolding name_held pick
+searched table name = go (name_held name (entries_of table)) refl
+  where
+    go : (held : Bool) → name_held name (entries_of table) ≡ held → unwrap_or (pick held (Some (holder name (entries_of table))) None) table.count ≡ holder name (entries_of table)
+    go true h = refl
+    go false h = omega (arith, ltb-false _ _ h, holder_most name (entries_of table), length_entries table)
+
+pub searched_fits : (table : TableMemory) (name : List ℕ) (id : ℕ) → id ≡ unwrap_or (entry_named name (entries_of table)) table.count → id ≤ table.count
+searched_fits table name id e = omega (arith, e ∙ searched table name, holder_most name (entries_of table), length_entries table)
+
+module _ (table : TableMemory) (m : List ℕ) where
+  pub name_said : get_or m 0 0 ≡ assignment_kind
+      → NameHeld (unwrap_or (entry_named (name_in (name_length_in m) m) (entries_of table)) table.count) ≡ ignored_reason (entries_of table) (get_or m 0 0) m
+  unfolding ignored_reason pick
+  name_said k = rw (k, searched table (name_in (name_length_in m) m))
+
+  pub number_said : (stored : ℕ) → get_or m 0 0 ≢ keep_alive_kind → get_or m 0 0 ≢ assignment_kind → update_id_in m < table.count → stored ≡ (entry_of table (update_id_in m)).number
+      → number_reason stored (received_in m) ≡ ignored_reason (entries_of table) (get_or m 0 0) m
+  unfolding ignored_reason pick
+  number_said stored k a held e =
+      rw (ne_eqb _ _ k, ne_eqb _ _ a, e) (ap (λ (x : Entry). number_reason x.number (received_in m)) (sym (entry_get table (update_id_in m) default_entry held)))
+
+-- an update that is stored
+pub stored_said : (table : TableMemory) (stored id number : ℕ) → id < table.count → stored ≡ (entry_of table id).number
+    → number_reason stored number ≡ number_reason (get_or (entries_of table) id default_entry).number number
+stored_said table stored id number held e = rw e (ap (λ (x : Entry). number_reason x.number number) (sym (entry_get table id default_entry held)))

@@ -1,92 +1,115 @@
 // Why a client's message is done, ignored or refused: the verdict by which the call itself goes, explained.
 #![tactic(auto)]
 
-ghost use Rattle.std.specs.Prelude.{◌≡◌, true, get_or};
-ghost use Rattle.table.specs.Table.{lent, entries_of, max_entries};
-ghost use Rattle.soundness.specs.Sound.{sound_table};
-ghost use Rattle.protocol.specs.Lent.{lent_server};
+ghost use Rattle.std.specs.Prelude.{◌≡◌, ℕ, get_or, false, Ok};
+ghost use Rattle.field.specs.Answer.{unsound};
+ghost use Rattle.table.specs.Memory.{memory_of};
+ghost use Rattle.table.specs.Table.{entries_of, max_entries};
+ghost use Rattle.protocol.specs.Lent.{beside_marks};
+ghost use Rattle.judge.specs.Decision.{verdict_of};
+ghost use Rattle.reason.specs.Reason.{refused_at};
 ghost use Rattle.reason.specs.Why.{why};
-ghost use Rattle.reason.specs.Explain.{number_reason, ignored_reason};
-ghost use Rattle.why.specs.Ignored.{ReadAgain};
+ghost use Rattle.reason.specs.Explain.{number_reason, ignored_reason, explain};
+ghost use Rattle.why.specs.Ignored.{ReadAgain, Explainable};
 ghost use Rattle.why.specs.Answer.{reason_answer};
 
-use field::{DONE, IGNORED, UNSOUND, fault_at, u16_at};
+use answer::Answered;
+use field::{DONE, Fault, IGNORED, Refusal};
 use judge::Decision;
-use message::{ASSIGNMENT_NAME_START, KIND_SIZE, UPDATE_NUMBER_START};
+use message::{ASSIGNMENT_NAME_START, KIND_SIZE, Kind, UPDATE_NUMBER_START};
 use reason::Reason;
 use sequence::SequenceNumber;
+use soundness::SoundTable;
+use table::Table;
 
 // An update, by its number.
-fn why_number(stored: u16, received: u16) -> Reason
-    ensures { result ≡ number_reason stored received }
+#[tactic(auto, unfolding(reason::specs::Why::first_failing, reason::specs::Checks::number_checks, reason::specs::Explain::number_reason, field::specs::Choice::pick))]
+fn why_number(stored: SequenceNumber, received: SequenceNumber) -> Reason
+    ensures { result ≡ number_reason stored.0 received.0 }
 {
-    let distance = SequenceNumber(stored).distance(SequenceNumber(received));
-    if distance == 0 {
-        return Reason::Equal;
+    match stored.distance(received) {
+        0 => Reason::Equal,
+        SequenceNumber::HALF => Reason::Undefined,
+        distance if distance < SequenceNumber::HALF => Reason::Applied(distance),
+        _ => Reason::Older(received.distance(stored)),
     }
-    if distance == SequenceNumber::HALF {
-        return Reason::Undefined;
-    }
-    if distance < SequenceNumber::HALF {
-        return Reason::Applied(distance);
-    }
-    let back = SequenceNumber(received).distance(SequenceNumber(stored));
-    Reason::Older(back)
 }
 
 // A message that is ignored: keep alive, an assignment whose name is held, or an update whose number is not greater.
-fn why_ignored(heads: &[u16], bytes: &[u8], count: u16, m: &[u8]) -> Reason
-    requires sound { sound_table max_entries (lent heads.now bytes.now count) ≡ true }
-    requires ignored { ReadAgain count m.now }
-    ensures { result ≡ ignored_reason (entries_of (lent heads.now bytes.now count)) (get_or m.now 0 0) m.now }
+#[tactic(auto, using(crate::proofs::IgnoredLaws::keep_alive_said, crate::proofs::IgnoredLaws::number_said))]
+fn why_ignored(table: SoundTable, m: &[u8]) -> Reason
+    requires { ReadAgain table.table.count m.now }
+    ensures { result ≡ ignored_reason (entries_of (memory_of table.entry.table)) (get_or m.now 0 0) m.now }
 {
     let kind = m[0];
-    if kind == message::KEEP_ALIVE {
+    if kind == u8::from(Kind::KeepAlive) {
         return Reason::KeepAlive;
     }
     // An assignment's name length, or an update's ID.
-    let first = u16_at(m, KIND_SIZE);
-    if kind == message::ASSIGNMENT {
-        let name_end = ASSIGNMENT_NAME_START + (first as usize);
-        let name = &m[ASSIGNMENT_NAME_START..name_end];
-        let id = table::find_name(heads, bytes, count as usize, name);
+    let first = usize::from(field::u16_at(m, KIND_SIZE));
+    if kind == u8::from(Kind::Assignment) {
+        let name = &m[ASSIGNMENT_NAME_START..][..first];
+        let id = table.find_name(name).unwrap_or(table.len());
         return Reason::NameHeld(id as u16);
     }
-    let received = u16_at(m, UPDATE_NUMBER_START);
-    why_number(table::number_of(heads, first as usize), received)
+    let received = field::u16_at(m, UPDATE_NUMBER_START);
+    why_number(
+        SequenceNumber(table.entry(first).number),
+        SequenceNumber(received),
+    )
+}
+
+// A message that is not refused.
+#[tactic(auto, using(crate::proofs::IgnoredLaws::stored_said))]
+fn why_taken(table: SoundTable, m: &[u8], decision: Decision) -> Reason
+    requires { Explainable table.table.count m.now decision }
+    ensures { (c : ℕ) → result ≡ explain (entries_of (memory_of table.entry.table)) (get_or m.now 0 0) m.now (verdict_of c m.now (Ok decision)) }
+{
+    match decision {
+        Decision::Ignore(_) => why_ignored(table, m),
+        Decision::AcceptHello | Decision::UnsupportedRevision | Decision::StoreNew(_) =>
+            Reason::Done,
+        Decision::StoreUpdate(update) => {
+            let stored = table.entry(usize::from(update.id)).number;
+            why_number(SequenceNumber(stored), SequenceNumber(update.number))
+        }
+    }
 }
 
 // A message m of connection c.
-pub fn why(heads: &[u16], bytes: &[u8], count: u16, marks: &[u8], c: usize, m: &[u8]) -> Reason
-    ensures { result ≡ why max_entries (lent_server heads.now bytes.now count marks.now) c m.now }
+#[tactic(auto, using(crate::proofs::IgnoredLaws::unsound_said, crate::proofs::IgnoredLaws::refused_said, crate::proofs::IgnoredLaws::decided_said, soundness::proofs::ReadableLaws::sixteen_marks))]
+pub fn why(table: Table, marks: &[u8], c: usize, m: &[u8]) -> Reason
+    ensures { result ≡ why max_entries (beside_marks (memory_of table.entry) marks.now) c m.now }
 {
-    if !server::is_sound(heads, bytes, count, marks) {
-        return Reason::Refused(fault_at(UNSOUND, 0));
-    }
-    match judge::judge_client_message(heads, bytes, count, marks, c, m) {
-        Decision::Refuse(fault) => Reason::Refused(fault),
-        Decision::Ignore(_) => why_ignored(heads, bytes, count, m),
-        Decision::AcceptHello => Reason::Done,
-        Decision::UnsupportedRevision => Reason::Done,
-        Decision::StoreNew {
-            type_code: _,
-            name_length: _,
-            value_length: _,
-        } => Reason::Done,
-        Decision::StoreUpdate {
-            id,
-            number,
-            value_length: _,
-        } => why_number(table::number_of(heads, id as usize), number),
+    let Some(table) = server::sound(table, marks) else {
+        return Reason::Refused(Fault::new(Refusal::Unsound, 0));
+    };
+    match judge::judge_client_message(table, marks, c, m) {
+        Err(fault) => Reason::Refused(fault),
+        Ok(decision) => why_taken(table, m, decision),
     }
 }
 
 // ---- a reason as C has it
 
-// specs/Answer.antt says which number stands for which reason. A field that a reason does not have is 0.
+// Which number stands for which reason.
+#[derive(Clone, Copy, PartialEq, Eq)]
+enum ReasonNumber {
+    Refused = 0,
+    KeepAlive = 1,
+    NameHeld = 2,
+    Equal = 3,
+    Older = 4,
+    Undefined = 5,
+    Applied = 6,
+    OtherDone = 7,
+}
+
+// specs/Answer.antt has the numbers too. A field that a reason does not have is 0.
 #[repr(C)]
 #[derive(Drop)]
 pub struct ReasonAnswer {
+    // Stays: C's struct has the reason's number, and the call's, as a byte.
     pub reason: u8,
     pub number: u8,
     pub id: u16,
@@ -94,83 +117,57 @@ pub struct ReasonAnswer {
     pub place: usize,
 }
 
-const REFUSED: u8 = 0;
-
-const KEEP_ALIVE: u8 = 1;
-
-const NAME_HELD: u8 = 2;
-
-const EQUAL: u8 = 3;
-
-const OLDER: u8 = 4;
-
-const UNDEFINED: u8 = 5;
-
-const APPLIED: u8 = 6;
-
-const OTHER_DONE: u8 = 7;
-
 // The answer on memory that is unsound or too small.
 pub const ON_UNSOUND: ReasonAnswer = ReasonAnswer {
-    reason: REFUSED,
-    number: UNSOUND,
+    reason: ReasonNumber::Refused as u8,
+    number: Refusal::Unsound as u8,
     id: 0,
     distance: 0,
     place: 0,
 };
 
-// What a reason that is no refusal and names no entry answers.
-fn without_id(reason: u8, number: u8, distance: u16) -> ReasonAnswer
-    ensures { result ≡ record { reason = reason; number = number; id = 0; distance = distance; place = 0 } }
-{
-    ReasonAnswer {
-        reason: reason,
-        number: number,
-        id: 0,
-        distance: distance,
-        place: 0,
+impl Answered for ReasonAnswer {
+    ghost on_unsound = { reason_answer (refused_at unsound 0) };
+
+    ghost changes_heads = { λ _. false };
+
+    fn on_unsound() -> ReasonAnswer {
+        ON_UNSOUND
+    }
+
+    fn changes_heads(&self) -> bool {
+        false
     }
 }
 
-fn answer_reason(r: Reason) -> ReasonAnswer
-    ensures { result ≡ reason_answer r }
-{
-    match r {
-        Reason::Refused(fault) => ReasonAnswer {
-            reason: REFUSED,
-            number: fault.number,
-            id: 0,
-            distance: 0,
-            place: fault.place,
-        },
-        Reason::KeepAlive => without_id(KEEP_ALIVE, IGNORED, 0),
-        Reason::NameHeld(id) => ReasonAnswer {
-            reason: NAME_HELD,
-            number: IGNORED,
-            id: id,
-            distance: 0,
-            place: 0,
-        },
-        Reason::Equal => without_id(EQUAL, IGNORED, 0),
-        Reason::Older(distance) => without_id(OLDER, IGNORED, distance),
-        Reason::Undefined => without_id(UNDEFINED, IGNORED, SequenceNumber::HALF),
-        Reason::Applied(distance) => without_id(APPLIED, DONE, distance),
-        Reason::Done => without_id(OTHER_DONE, DONE, 0),
+impl From<Reason> for ReasonAnswer {
+    ghost from_gives = { λ reason answer. answer ≡ reason_answer reason };
+
+    fn from(reason: Reason) -> ReasonAnswer {
+        let (told, number, id, distance, place) = match reason {
+            Reason::Refused(fault) => (ReasonNumber::Refused, fault.number(), 0, 0, fault.place()),
+            Reason::KeepAlive => (ReasonNumber::KeepAlive, IGNORED, 0, 0, 0),
+            Reason::NameHeld(id) => (ReasonNumber::NameHeld, IGNORED, id, 0, 0),
+            Reason::Equal => (ReasonNumber::Equal, IGNORED, 0, 0, 0),
+            Reason::Older(by) => (ReasonNumber::Older, IGNORED, 0, by, 0),
+            Reason::Undefined => (ReasonNumber::Undefined, IGNORED, 0, SequenceNumber::HALF, 0),
+            Reason::Applied(by) => (ReasonNumber::Applied, DONE, 0, by, 0),
+            Reason::Done => (ReasonNumber::OtherDone, DONE, 0, 0, 0),
+        };
+        ReasonAnswer {
+            reason: told as u8,
+            number,
+            id,
+            distance,
+            place,
+        }
     }
 }
 
 // The call in the form that C's hands on to.
-pub fn why_answer(
-    flat: &[u16],
-    bytes: &[u8],
-    count: &u16,
-    marks: &[u8],
-    connection: usize,
-    m: &[u8],
-) -> ReasonAnswer
+pub fn why_answer(table: Table, marks: &[u8], connection: usize, m: &[u8]) -> ReasonAnswer
     ensures { result ≡ reason_answer
-        (why max_entries (lent_server flat.now bytes.now count.now marks.now) connection m.now) }
+        (why max_entries (beside_marks (memory_of table.entry) marks.now) connection m.now) }
 {
-    let reason = why(flat, bytes, *count, marks, connection, m);
-    answer_reason(reason)
+    ReasonAnswer::from(why(table, marks, connection, m))
 }

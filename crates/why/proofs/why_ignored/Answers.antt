@@ -1,54 +1,21 @@
--- `why_ignored`: the kind's own reason; the search's answer for the name; the numbers of the update and of its entry.
-use mathlib.Core.Path.{sym, ap, ◌∙◌}
-use native.Mathlib.Nat.{add-sub_cancel_left}
+-- `why_ignored`: the search's answer for an assignment's name.
+use mathlib.Core.Path.{◌∙◌}
 use native.Mathlib.Omega.{arith}
-use lib.ListN.{get_or}
-use borrow.Author.Tests.{eq-eqb, ne_eqb}
-use Rattle.field.specs.Choice.{pick}
-use Rattle.message.specs.Layout.{Entry, keep_alive_kind, assignment_kind, assignment_name_start}
-use Rattle.table.specs.Table.{TableMemory, table_memory, default_entry, entry_at, max_entries}
-use Rattle.table.proofs.SearchLaws.{found_most}
-use Rattle.table.proofs.TabulateLaws.{entry_get}
-use Rattle.soundness.proofs.ReadableLaws.{sound_named, sound_holds, sound_count}
-use Rattle.places.specs.MessageFails.{update_id_in}
-use Rattle.reason.specs.Explain.{ignored_reason}
+use Rattle.field.proofs.OctetsLaws.{rest_all}
+use Rattle.message.specs.Layout.{assignment_name_start}
+use Rattle.table.specs.Memory.{memory_of}
+use Rattle.table.specs.Table.{max_entries}
+use Rattle.soundness.proofs.ReadableLaws.{sound_count}
+use Rattle.why.proofs.IgnoredLaws.{searched_fits, name_said}
 use Rattle.why.proofs.why_ignored.Goals as goal
-
-pub returns-then-kind-eq-KEEP_ALIVE : goal.returns-then-kind-eq-KEEP_ALIVE
-unfolding ignored_reason pick
-returns-then-kind-eq-KEEP_ALIVE c = rw (eq-eqb (get_or c.args.m.now 0 0) keep_alive_kind c.if-kind-eq-KEEP_ALIVE.true)
-
-pub find_name-id-requires : goal.find_name-id-requires
-find_name-id-requires c = sound_named max_entries (table_memory c.args.heads.now c.args.bytes.now c.args.count) c.requires.sound
 
 pub overflow_cast-result : goal.overflow_cast-result
 overflow_cast-result c =
-    omega (arith, found_most (table_memory c.args.heads.now c.args.bytes.now c.args.count) _ _ c.find_name-id.ensures)
+    let table = memory_of c.args.table.table in
+    let found = rw (c.len.ensures, c.find_name.ensures) at c.unwrap_or-id.ensures in
+    omega (arith, searched_fits table _ c.unwrap_or-id.result found, sound_count max_entries table c.args.table.sound)
 
-pub returns-then-kind-eq-ASSIGNMENT : goal.returns-then-kind-eq-ASSIGNMENT
-unfolding ignored_reason pick
-returns-then-kind-eq-ASSIGNMENT c =
-    let kind = get_or c.args.m.now 0 0 in
-    let no_keep = ne_eqb kind keep_alive_kind c.if-kind-eq-KEEP_ALIVE.false in
-    let is_assignment = eq-eqb kind assignment_kind c.if-kind-eq-ASSIGNMENT.true in
-    let found = rw (add-sub_cancel_left assignment_name_start c.u16_at-first.result, c.u16_at-first.ensures) at c.find_name-id.ensures in
-    rw (no_keep, is_assignment, found)
-
-pub number_of-requires : goal.number_of-requires
-number_of-requires c =
-    let table : TableMemory = table_memory c.args.heads.now c.args.bytes.now c.args.count in
-    let held = (c.requires.ignored.number_there c.if-kind-eq-KEEP_ALIVE.false c.if-kind-eq-ASSIGNMENT.false).1 in
-    let heads = (sound_holds max_entries table c.requires.sound).heads_hold in
-    omega (arith, c.u16_at-first.ensures, held, heads, sound_count max_entries table c.requires.sound)
-
-pub returns : goal.returns
-unfolding entry_at ignored_reason pick
-returns c =
-    let table : TableMemory = table_memory c.args.heads.now c.args.bytes.now c.args.count in
-    let kind = get_or c.args.m.now 0 0 in
-    let held = (c.requires.ignored.number_there c.if-kind-eq-KEEP_ALIVE.false c.if-kind-eq-ASSIGNMENT.false).1 in
-    let number_is = sym (ap (λ (x : Entry). x.number) (entry_get table (update_id_in c.args.m.now) default_entry held)) in
-    let stored = rw c.u16_at-first.ensures at (c.number_of.ensures c.args.bytes.now) in
-    let no_keep = ne_eqb kind keep_alive_kind c.if-kind-eq-KEEP_ALIVE.false in
-    let no_assignment = ne_eqb kind assignment_kind c.if-kind-eq-ASSIGNMENT.false in
-    rw (no_keep, no_assignment, c.why_number.ensures, stored ∙ number_is, c.u16_at-received.ensures)
+pub returns-then-kind-from-2 : goal.returns-then-kind-from-2
+returns-then-kind-from-2 c =
+    rw (c.unwrap_or-id.ensures, c.len.ensures, c.find_name.ensures, rest_all assignment_name_start c.args.m.now, c.from-first.ensures, c.u16_at.ensures)
+    (name_said (memory_of c.args.table.table) c.args.m.now (c.if-kind-from-2.true ∙ c.from-2.ensures))
