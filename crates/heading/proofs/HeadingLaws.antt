@@ -1,8 +1,11 @@
 -- A message whose bytes stand behind a heading, as the code lends the output: the part behind the heading.
-use mathlib.Core.Path.{◌≡◌, sym, ap, ◌∙◌}
+use Rattle.std.specs.Int.{w32, to_be_bytes}
+use Rattle.std.proofs.lemmas.Nat.{be_bytes_4}
+use Rattle.std.proofs.Common.{rules}
+use mathlib.Core.Path.{◌≡◌, refl, sym, ap, ◌∙◌}
 use mathlib.Core.Logic.{◌≢◌}
-use mathlib.Core.List.{List, ◌++◌, append_assoc}
-use Prim.Native.Nat.{ℕ, ◌+◌, ◌-◌, ◌/◌, ◌%◌, ◌^◌, ◌≤◌, ◌<◌, min}
+use mathlib.Core.List.{List, ◌++◌}
+use Prim.Native.Nat.{ℕ, ◌+◌, ◌-◌, ◌^◌, ◌≤◌, ◌<◌, min}
 use native.Mathlib.Decide.{dec_lt}
 use native.Mathlib.Omega.{arith}
 use lib.ListN.{length, take, drop, length-append, length-drop, take-append-drop, drop_of_length-le}
@@ -20,25 +23,21 @@ use Rattle.protocol.specs.Answered.{MessageProgress, RightlyAnswered}
 use Rattle.protocol.specs.Taken.{message_call}
 use Rattle.protocol.proofs.AnswerLaws.{call_answered}
 use Rattle.protocol.proofs.ProgressLaws.{call_progress}
-use Rattle.delivery.specs.Delivery.{heading_size, heading_bytes, judged_call, message_with_place}
+use Rattle.delivery.specs.Delivery.{heading_size, heading_bytes, encode32, judged_call, message_with_place}
 use Rattle.delivery.proofs.MessageLaws.{length_heading, step_done, step_other}
 use Rattle.delivery.proofs.DeliveryLaws.{rest_back}
 
--- three stores make the heading
-pub heading_stored : (out x y z : List ℕ) (recipients n : ℕ) → x ≡ overwrite_at out 0 (encode16 recipients) → y ≡ overwrite_at x 2 (encode16 (n / 65536)) → z ≡ overwrite_at y 4 (encode16 (n % 65536))
-    → z ≡ overwrite_at out 0 (heading_bytes recipients n)
+-- a length in 4 bytes
+length_bytes : (n : ℕ) → n < 2 ^ 32 → to_be_bytes w32 n ≡ encode32 n
+unfolding encode16
+length_bytes n h = be_bytes_4 (encode32 n) n refl (λ i. search (rules, arith)) (omega arith)
+
+-- two stores make the heading
+pub heading_stored : (out x : List ℕ) (recipients n : ℕ) → n < 2 ^ 32 → x ≡ overwrite_at out 0 (encode16 recipients)
+    → overwrite_at x 2 (to_be_bytes w32 n) ≡ overwrite_at out 0 (heading_bytes recipients n)
 unfolding heading_bytes
-heading_stored out x y z recipients n f g h =
-    let a = encode16 recipients in
-    let b = encode16 (n / 65536) in
-    h
-    ∙ rw (
-      g,
-      f,
-      overwrite_append out 0 a b 2 (omega (arith, length_encode16 recipients)),
-      overwrite_append out 0 (a ++ b) (encode16 (n % 65536)) 4 (omega (arith, length-append a b, length_encode16 recipients, length_encode16 (n / 65536))),
-      append_assoc a b (encode16 (n % 65536)),
-    )
+heading_stored out x recipients n few e =
+    rw (length_bytes n few, e, overwrite_append out 0 (encode16 recipients) (encode32 n) 2 (omega (arith, length_encode16 recipients)))
 
 drop_from : (out : List ℕ) (from : ℕ) → from ≡ min heading_size (length out) → drop from out ≡ drop heading_size out
 drop_from out from e = elim (dec_lt (length out) heading_size) [

@@ -16,13 +16,13 @@ use protocol::Memory;
 // Recipients in two bytes, and a length in four.
 const HEADING_SIZE: usize = 6;
 
+#[tactic(auto, using(crate::proofs::HeadingLaws::heading_stored))]
 fn put_heading(out: &mut [u8], recipients: u16, size: usize)
     requires { (heading_size ≤ length out.old) × (size < 2 ^ 32) }
     ensures { out.new ≡ overwrite_at out.old 0 (heading_bytes recipients size) }
 {
     field::put_u16(out, 0, recipients);
-    field::put_u16(out, 2, (size / 65536) as u16);
-    field::put_u16(out, 4, (size % 65536) as u16);
+    field::copy_into(out, 2, &(size as u32).to_be_bytes());
 }
 
 // The message that stands first, on memory that is known to be sound. What it sends stands behind a heading; `sent` counts both.
