@@ -1,27 +1,30 @@
--- `connection_left` is the step of its call beside every sound table, and drops what is held where that is done.
-use mathlib.Core.Path.{sym, ap, ◌∙◌}
-use native.Mathlib.Omega.{arith}
-use borrow.Author.Tests.{eq-eqb, ne_eqb}
-use Rattle.field.proofs.ChoiceLaws.{pick_true, pick_false}
-use Rattle.protocol.specs.Effect.{Effect}
-use Rattle.slots.proofs.StepLaws.{left_within}
+-- `connection_left` is the step of its call, and drops what is held where that is done.
+use Rattle.std.proofs.Common.{sym, refl, arith}
+use Rattle.protocol.specs.Memory.{server_of}
+use Rattle.slots.proofs.StepLaws.{left_within, left_done, left_refused}
 use Rattle.slots.proofs.connection_left.Goals as goal
 
--- what the call says of a leaving connection, and what is left, beside a sound table
-pub drop_held-requires : goal.drop_held-requires
-drop_held-requires c =
-    omega (arith, left_within c.args.marks.now c.args.c c.requires.0 (λ t h. sym (ap (λ (r : Effect). r.number) (c.leave.ensures t h)) ∙ c.if-leave-eq-DONE.true), c.requires.1)
+pub offset_bounds-slots-c : goal.offset_bounds-slots-c
+offset_bounds-slots-c c =
+    let mem = server_of c.args.memory.now in
+    omega (arith, left_within mem _ c.args.c c.args.slots.now c.change_mark.result (c.change_mark.ensures mem.table c.requires.table) c.requires (sym c.if-is_ok.ensures.value))
 
-pub returns-then-leave-eq-DONE : goal.returns-then-leave-eq-DONE
-returns-then-leave-eq-DONE c =
-    λ t h. (
-      ap (λ (r : Effect). r.memory) (c.leave.ensures t h),
-      c.drop_held.ensures ∙ sym (pick_true _ _ (eq-eqb _ _ (sym (ap (λ (r : Effect). r.number) (c.leave.ensures t h)) ∙ c.if-leave-eq-DONE.true))),
-    )
+pub listed : goal.listed
+listed c =
+    let mem = server_of c.args.memory.now in
+    omega (arith, c.told-slots, left_within mem _ c.args.c c.args.slots.now c.change_mark.result (c.change_mark.ensures mem.table c.requires.table) c.requires (sym c.if-is_ok.ensures.value))
 
-pub returns-else-leave-eq-DONE : goal.returns-else-leave-eq-DONE
-returns-else-leave-eq-DONE c =
-    λ t h. (
-      ap (λ (r : Effect). r.memory) (c.leave.ensures t h),
-      sym (pick_false _ _ (ne_eqb _ _ (λ e. c.if-leave-eq-DONE.false (ap (λ (r : Effect). r.number) (c.leave.ensures t h) ∙ e)))),
-    )
+pub bounds-slots-c : goal.bounds-slots-c
+bounds-slots-c c =
+    let mem = server_of c.args.memory.now in
+    omega (arith, left_within mem _ c.args.c c.args.slots.now c.change_mark.result (c.change_mark.ensures mem.table c.requires.table) c.requires (sym c.if-is_ok.ensures.value))
+
+pub returns-then-is_ok-clause-state : goal.returns-then-is_ok-clause-state
+returns-then-is_ok-clause-state c =
+    let mem = server_of c.args.memory.now in
+    left_done mem _ c.args.c c.args.slots.now c.change_mark.result (c.change_mark.ensures mem.table c.requires.table) (sym c.if-is_ok.ensures.value) _ refl
+
+pub returns-else-is_ok-clause-state : goal.returns-else-is_ok-clause-state
+returns-else-is_ok-clause-state c =
+    let mem = server_of c.args.memory.now in
+    left_refused mem _ c.args.c c.args.slots.now c.change_mark.result (c.change_mark.ensures mem.table c.requires.table) (sym c.if-is_ok.ensures.value)

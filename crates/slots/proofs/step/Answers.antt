@@ -1,30 +1,39 @@
--- `step` is the record of its kind.
-use Prim.Native.Nat.{◌<◌}
-use mathlib.Core.Path.{ap}
-use Rattle.protocol.specs.Lent.{server_memory}
+-- `step` is the record, of its kind.
+use Rattle.std.proofs.Common.{ap, arith, map, []}
+use Rattle.protocol.specs.Memory.{server_of}
 use Rattle.protocol.specs.Effect.{Effect}
-use Rattle.line_record.specs.Record.{recorded_connections}
-use Rattle.slots.proofs.StepLaws.{opened_step, left_step, opens_is, leaves_is, came_is}
+use Rattle.line_record.specs.Record.{opens, leaves, came}
+use Rattle.line_record.specs.Replay.{RunState, step_record}
+use Rattle.gather.specs.Slot.{held_in}
+use Rattle.slots.proofs.StepLaws.{step_sound, came_state}
 use Rattle.slots.proofs.step.Goals as goal
 
-pub returns-then-kind-eq-OPENS : goal.returns-then-kind-eq-OPENS
-returns-then-kind-eq-OPENS c =
-    let k = opened_step ((server_memory c.args.heads.now c.args.bytes.now c.args.count.now c.args.marks.now)) (server_memory c.args.heads.now c.args.bytes.now c.args.count.now c.open.new.marks) c.args.c c.args.sizes.now c.args.slots.now
-    c.requires.ready (ap (λ (r : Effect). r.memory) (c.open.ensures ((server_memory c.args.heads.now c.args.bytes.now c.args.count.now c.args.marks.now)).table c.requires.ready.sound.table)) in
-    record { state = rw (opens_is c.args.kind c.args.c c.args.arrived.now c.if-kind-eq-OPENS.true) k.state; ready = k.ready }
+pub returns-in-Opens-clause-state : goal.returns-in-Opens-clause-state
+unfolding step_record
+returns-in-Opens-clause-state c =
+    let mem = server_of c.args.memory.now in
+    rw (c.in-Opens.is, ap (λ (r : Effect). r.memory) (c.change_mark.ensures mem.table c.requires.sound.table))
 
-pub returns-then-kind-eq-LEAVES : goal.returns-then-kind-eq-LEAVES
-returns-then-kind-eq-LEAVES c =
-    let l = c.connection_left.ensures ((server_memory c.args.heads.now c.args.bytes.now c.args.count.now c.args.marks.now)).table c.requires.ready.sound.table in
-    let k = left_step ((server_memory c.args.heads.now c.args.bytes.now c.args.count.now c.args.marks.now)) (server_memory c.args.heads.now c.args.bytes.now c.args.count.now c.connection_left.new.marks) c.args.c c.args.sizes.now c.args.slots.now c.connection_left.new.sizes
-    c.requires.ready l.0 l.1 in
-    record { state = rw (leaves_is c.args.kind c.args.c c.args.arrived.now c.if-kind-eq-OPENS.false c.if-kind-eq-LEAVES.true) k.state; ready = k.ready }
+pub returns-in-Opens-clause-sound : goal.returns-in-Opens-clause-sound
+unfolding step_record
+returns-in-Opens-clause-sound c =
+    let mem = server_of c.args.memory.now in
+    rw (ap (λ (r : Effect). r.memory) (c.change_mark.ensures mem.table c.requires.sound.table)) (step_sound mem [] c.requires.sound (opens c.in-Opens.c))
 
-pub bytes_came-requires : goal.bytes_came-requires
-bytes_came-requires c =
-    let within : c.args.c < recorded_connections = c.requires.connection c.if-kind-eq-OPENS.false c.if-kind-eq-LEAVES.false in
-    record { ready = c.requires.ready; arrived = (within, c.requires.arrived) }
+pub returns-in-Leaves-clause-sound : goal.returns-in-Leaves-clause-sound
+returns-in-Leaves-clause-sound c =
+    let mem = server_of c.args.memory.now in
+    rw (ap (λ (s : RunState). s.memory) c.connection_left.ensures.state) (step_sound mem (map held_in c.args.slots.now) c.requires.sound (leaves c.in-Leaves.c))
 
-pub returns : goal.returns
-returns c =
-    record { state = rw (came_is c.args.kind c.args.c c.args.arrived.now c.if-kind-eq-OPENS.false c.if-kind-eq-LEAVES.false) c.bytes_came.ensures.state; ready = c.bytes_came.ensures.ready }
+pub returns-in-Came-clause-state : goal.returns-in-Came-clause-state
+returns-in-Came-clause-state c =
+    let mem = server_of c.args.memory.now in
+    rw c.in-Came.is
+    (came_state mem _ c.in-Came.c c.args.slots.now c.index-slots-c.result c.gather.new.slot c.in-Came.arrived.now (omega (arith, c.told-slots, (rw c.in-Came.is at c.requires.fits).0)) c.gather.ensures.kept)
+
+pub returns-in-Came-clause-sound : goal.returns-in-Came-clause-sound
+returns-in-Came-clause-sound c =
+    let mem = server_of c.args.memory.now in
+    let state =
+    came_state mem _ c.in-Came.c c.args.slots.now c.index-slots-c.result c.gather.new.slot c.in-Came.arrived.now (omega (arith, c.told-slots, (rw c.in-Came.is at c.requires.fits).0)) c.gather.ensures.kept in
+    rw (ap (λ (s : RunState). s.memory) state) (step_sound mem (map held_in c.args.slots.now) c.requires.sound (came c.in-Came.c c.in-Came.arrived.now))
