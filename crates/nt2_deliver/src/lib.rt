@@ -13,7 +13,8 @@ use deliver::Delivered;
 use heads::Head;
 use protocol::Memory;
 
-// A delivery on memory that is lent in parts, as `receive` of `flat` is one message.
+// A delivery.
+// Stays: memory lent in parts. The closure of a call on heads cannot make a struct of the references that it holds.
 fn deliver_on(
     heads: &mut [u16],
     bytes: &mut [u8],
@@ -36,6 +37,7 @@ fn deliver_on(
     deliver::deliver(&mut memory, connection, input, out)
 }
 
+// Stays: C calls it, and lends each part of the memory by itself.
 pub fn nt2_deliver(
     heads: &mut [Head],
     bytes: &mut [u8],
