@@ -86,7 +86,8 @@ pub fn read(table: Table, id: u16) -> ScalarAnswer
     ScalarAnswer::from(server::read(table, id))
 }
 
-// One message of a client. A closure of a call on heads holds its references by reference, and no struct can be made of them there.
+// One message of a client.
+// Stays: memory lent in parts. The closure of a call on heads cannot make a struct of the references that it holds.
 pub fn receive(
     heads: &mut [u16],
     bytes: &mut [u8],

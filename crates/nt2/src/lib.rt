@@ -1,9 +1,11 @@
 // The calls as C has them. Of those on a table, heads become numbers, the call is made on them, and they become heads again.
+// Stays: C calls each function nt2_ .., and lends each part of the memory by itself; kinds, types and IDs are the numbers that it gives.
 #![tactic(auto)]
 
 ghost use Rattle.std.specs.Prelude.{◌≡◌, []};
 ghost use Rattle.protocol.specs.Judge.{open_connection, leave, client_message, local_create, local_write};
 ghost use Rattle.protocol.specs.Lent.{lent_call};
+ghost use Rattle.judge.specs.Decision.{mark_call};
 ghost use Rattle.message.specs.Reader.{parse_message};
 ghost use Rattle.writer.specs.Writer.{lent_fields, check, write_with_place, written};
 ghost use Rattle.fields.specs.Fields.{fields_with_place, fields_in};
@@ -30,7 +32,33 @@ pub fn nt2_fresh(heads: &[Head], bytes: &[u8], count: &mut u16, marks: &mut [u8]
     )
 }
 
+// A connection opens or leaves.
 #[tactic(auto, using(crate::proofs::Calls::few_answered, crate::proofs::Calls::read_call))]
+fn change_mark(
+    heads: &[Head],
+    bytes: &[u8],
+    count: u16,
+    marks: &mut [u8],
+    connection: usize,
+    change: MarkChange,
+) -> Answer
+    ensures { heads_answered result (lent heads.now bytes.now count marks.new) []
+        ≡ heads_step (lent heads.now bytes.now count marks.old)
+        (record { call = mark_call change connection; output = [] }) }
+{
+    heads::read(
+        heads,
+        &mut |flat: &[u16]| {
+            let table = Table {
+                heads: flat,
+                bytes,
+                count,
+            };
+            server::change_mark(table, marks, connection, change)
+        },
+    )
+}
+
 pub fn nt2_open(
     heads: &[Head],
     bytes: &[u8],
@@ -42,20 +70,9 @@ pub fn nt2_open(
         ≡ heads_step (lent heads.now bytes.now count.old marks.old)
         (record { call = open_connection connection; output = [] }) }
 {
-    heads::read(
-        heads,
-        &mut |flat: &[u16]| {
-            let table = Table {
-                heads: flat,
-                bytes,
-                count: *count,
-            };
-            server::change_mark(table, marks, connection, MarkChange::Open)
-        },
-    )
+    change_mark(heads, bytes, *count, marks, connection, MarkChange::Open)
 }
 
-#[tactic(auto, using(crate::proofs::Calls::few_answered, crate::proofs::Calls::read_call))]
 pub fn nt2_leave(
     heads: &[Head],
     bytes: &[u8],
@@ -67,17 +84,7 @@ pub fn nt2_leave(
         ≡ heads_step (lent heads.now bytes.now count.old marks.old)
         (record { call = leave connection; output = [] }) }
 {
-    heads::read(
-        heads,
-        &mut |flat: &[u16]| {
-            let table = Table {
-                heads: flat,
-                bytes,
-                count: *count,
-            };
-            server::change_mark(table, marks, connection, MarkChange::Close)
-        },
-    )
+    change_mark(heads, bytes, *count, marks, connection, MarkChange::Close)
 }
 
 pub fn nt2_receive(

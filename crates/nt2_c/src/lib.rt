@@ -1,4 +1,5 @@
 // The library as C calls it: each export is the function of its name in the libraries below, with the same promise.
+// Stays: C links the functions that this crate defines, under these names, and each part of the memory is lent by itself.
 #![tactic(auto)]
 
 ghost use Rattle.std.specs.Prelude.{◌≡◌, []};

@@ -2,14 +2,42 @@
 #![tactic(auto)]
 
 ghost use Rattle.std.specs.Prelude.{◌≡◌};
+ghost use Rattle.table.specs.Table.{max_entries};
+ghost use Rattle.protocol.specs.Lent.{lent_server};
+ghost use Rattle.delivery.specs.Delivery.{deliver};
+ghost use Rattle.deliver.specs.Lent.{delivered};
 ghost use Rattle.nt2.specs.Lent.{lent};
 ghost use Rattle.nt2_deliver.specs.Lent.{heads_delivered, heads_delivery};
 
 use deliver::Delivered;
-use field::DONE;
 use heads::Head;
+use protocol::Memory;
 
-// Messages before a refusal may have changed heads too, so these are stored whatever the number.
+// A delivery.
+// Stays: memory lent in parts. The closure of a call on heads cannot make a struct of the references that it holds.
+fn deliver_on(
+    heads: &mut [u16],
+    bytes: &mut [u8],
+    count: &mut u16,
+    marks: &mut [u8],
+    connection: usize,
+    input: &[u8],
+    out: &mut [u8],
+) -> Delivered
+    ensures { delivered result (lent_server heads.new bytes.new count.new marks.new) out.new
+        ≡ deliver max_entries (lent_server heads.old bytes.old count.old marks.old) connection
+        input.now out.old }
+{
+    let mut memory = Memory {
+        heads,
+        bytes,
+        count,
+        marks,
+    };
+    deliver::deliver(&mut memory, connection, input, out)
+}
+
+// Stays: C calls it, and lends each part of the memory by itself.
 pub fn nt2_deliver(
     heads: &mut [Head],
     bytes: &mut [u8],
@@ -23,12 +51,8 @@ pub fn nt2_deliver(
         ≡ heads_delivery (lent heads.old bytes.old count.old marks.old) connection input.now
         out.old }
 {
-    if heads.len() < table::MAX_ENTRIES {
-        return deliver::ON_UNSOUND;
-    }
-    let mut flat = [0u16; table::HEADS_SIZE];
-    heads::load(heads, &mut flat);
-    let r = deliver::deliver(&mut flat, bytes, count, marks, connection, input, out);
-    heads::store(DONE, &flat, heads);
-    r
+    heads::change(
+        heads,
+        &mut |flat: &mut [u16]| deliver_on(flat, bytes, count, marks, connection, input, out),
+    )
 }

@@ -10,6 +10,7 @@ use answer::Answer;
 use heads::Head;
 use table::Table;
 
+// Stays: C calls nt2_save and nt2_load, and lends each part of the memory by itself.
 #[tactic(auto, using(crate::proofs::CallLaws::few_saved))]
 pub fn nt2_save(heads: &[Head], bytes: &[u8], count: &u16, out: &mut [u8]) -> Answer
     ensures { save_result result out.new

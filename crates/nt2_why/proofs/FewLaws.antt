@@ -1,13 +1,13 @@
--- Fewer heads than a table has: the reason is 14. With enough of them it is that on their numbers.
+-- Fewer heads than a table has: the reason is 14.
 use mathlib.Core.Path.{◌≡◌}
 use mathlib.Core.List.{List}
-use Prim.Native.Nat.{ℕ, ◌<◌, ◌≤◌}
+use Prim.Native.Nat.{ℕ, ◌<◌}
 use lib.ListN.{length}
 use Rattle.field.specs.Answer.{unsound}
 use Rattle.field.specs.Choice.{pick}
 use Rattle.table.specs.Table.{max_entries}
 use Rattle.heads.specs.declared.Head.{Head}
-use Rattle.heads.specs.Heads.{head_numbers, flat_heads, loaded}
+use Rattle.heads.specs.Heads.{head_numbers, flat_heads}
 use Rattle.heads.proofs.HeadLaws.{length_few}
 use Rattle.protocol.specs.Lent.{server_memory}
 use Rattle.reason.specs.Reason.{refused_at}
@@ -16,7 +16,6 @@ use Rattle.reason.proofs.ExplainLaws.{why_explained}
 use Rattle.why.specs.Answer.{reason_answer}
 use Rattle.why.specs.declared.ReasonAnswer.{ReasonAnswer}
 use Rattle.nt2.specs.Lent.{lent}
-use Rattle.nt2.proofs.Calls.{loaded_is}
 use Rattle.nt2.proofs.FewLaws.{table_few}
 use Rattle.nt2_why.specs.Lent.{heads_why}
 
@@ -33,8 +32,3 @@ why_few heads bytes count few marks c message = rw (why_explained max_entries (s
 pub few_reason : (hs : List Head) (bytes : List ℕ) (count : ℕ) → length hs < max_entries → (marks : List ℕ) (c : ℕ) (message : List ℕ)
     → unsound_reason ≡ heads_why (lent hs bytes count marks) c message
 few_reason hs bytes count few marks c message = why_few (flat_heads hs) bytes count (length_few hs few) marks c message
-
-pub reason_call : (hs : List Head) (xs flat : List ℕ) → flat ≡ loaded max_entries hs xs → max_entries ≤ length hs → length flat ≡ head_numbers
-    → (bytes : List ℕ) (count : ℕ) (marks : List ℕ) (c : ℕ) (message : List ℕ) (r : ReasonAnswer)
-    → r ≡ reason_answer (why max_entries (server_memory flat bytes count marks) c message) → r ≡ heads_why (lent hs bytes count marks) c message
-reason_call hs xs flat l enough len bytes count marks c message r e = rw (loaded_is hs xs flat l enough len) at e

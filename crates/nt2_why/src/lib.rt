@@ -6,8 +6,11 @@ ghost use Rattle.nt2.specs.Lent.{lent};
 ghost use Rattle.nt2_why.specs.Lent.{heads_why};
 
 use heads::Head;
+use table::Table;
 use why::ReasonAnswer;
 
+// Stays: C calls it, and lends each part of the memory by itself.
+#[tactic(auto, using(crate::proofs::FewLaws::few_reason))]
 pub fn nt2_why(
     heads: &[Head],
     bytes: &[u8],
@@ -18,10 +21,15 @@ pub fn nt2_why(
 ) -> ReasonAnswer
     ensures { result ≡ heads_why (lent heads.now bytes.now count.now marks.now) connection message.now }
 {
-    if heads.len() < table::MAX_ENTRIES {
-        return why::ON_UNSOUND;
-    }
-    let mut flat = [0u16; table::HEADS_SIZE];
-    heads::load(heads, &mut flat);
-    why::why_answer(&flat, bytes, count, marks, connection, message)
+    heads::read(
+        heads,
+        &mut |flat: &[u16]| {
+            let table = Table {
+                heads: flat,
+                bytes,
+                count: *count,
+            };
+            why::why_answer(table, marks, connection, message)
+        },
+    )
 }

@@ -1,9 +1,6 @@
-use Rattle.std.proofs.Common.{arith}
+use Rattle.std.proofs.Common.{rules, refl, inl, inr}
 use Rattle.nt2_deliver.proofs.FewLaws.{few_delivered, delivered_call}
 use Rattle.nt2_deliver.proofs.nt2_deliver.Goals as goal
 
-pub returns-then-heads-lt-MAX_ENTRIES : goal.returns-then-heads-lt-MAX_ENTRIES
-returns-then-heads-lt-MAX_ENTRIES c = few_delivered _ _ _ c.if-heads-lt-MAX_ENTRIES.true _ _ _ _
-
 pub returns : goal.returns
-returns c = delivered_call _ _ _ c.load.ensures c.if-heads-lt-MAX_ENTRIES.false (omega arith) _ _ (omega arith) _ _ _ _ _ _ _ _ _ _ _ c.deliver-r.ensures c.store.ensures
+returns c = elim c.change.ensures [ inl few ↦ search (rules, few_delivered) | inr m ↦ delivered_call _ _ m.flat _ _ _ _ _ _ _ _ _ _ _ (m.changed refl) m.past (search rules) ]
