@@ -1,21 +1,49 @@
 // A line record run again: the fresh start, then record after record.
 #![tactic(auto)]
 
-ghost use Rattle.std.specs.Prelude.{◌≡◌, ◌*◌, ◌≤◌, length, replicate};
+ghost use Rattle.std.specs.Prelude.{◌≡◌, ◌≤◌, ◌^◌, ◌<◌, length, true, IfOk};
+ghost use Rattle.field.specs.Answer.{unsound};
 ghost use Rattle.table.specs.Table.{max_entries};
 ghost use Rattle.protocol.specs.Lent.{lent_server};
-ghost use Rattle.line_record.specs.Record.{is_data, known_kind, data_size, known_connection, next_record, max_arrived, recorded_connections};
+ghost use Rattle.protocol.specs.Kept.{SoundMemory};
+ghost use Rattle.protocol.specs.Memory.{server_of, SameMemory};
+ghost use Rattle.line_record.specs.Record.{data_size, next_record, max_arrived};
 ghost use Rattle.line_record.specs.Replay.{advance, run, replay, result_of};
-ghost use Rattle.slots.specs.Slots.{slot_size, state_of, Ready};
-ghost use Rattle.replay.specs.Lent.{next_of, NextFits, ProgressIs, replayed};
+ghost use Rattle.slots.specs.Slots.{state_of};
+ghost use Rattle.slots.specs.Lent.{Fits};
+ghost use Rattle.replay.specs.Kinds.{IsKindOf, kind_data};
+ghost use Rattle.replay.specs.Lent.{size_of, next_of, ProgressIs, replayed};
 
-use field::{DONE, INCOMPLETE, Octet, UNKNOWN_KIND, UNSOUND};
+use answer::Answered;
+use field::{DONE, Refusal};
+use gather::Slot;
+use protocol::Memory;
+use slots::{RECORDED_CONNECTIONS, Record};
 
 // ---- what is recorded
 
-const LEAST_DATA: u8 = 64;
+// Kinds of a record: a connection opens, it leaves, or so many bytes came in for it.
+#[derive(Clone, Copy, PartialEq, Eq)]
+pub enum Kind {
+    Opens,
+    Leaves,
+    Data(usize),
+}
 
-const MOST_DATA: u8 = 127;
+impl TryFrom<u8> for Kind {
+    type Error = Refusal;
+
+    ghost try_from_gives = { IsKindOf };
+
+    fn try_from(byte: u8) -> Result<Kind, Refusal> {
+        match byte {
+            1 => Ok(Kind::Opens),
+            2 => Ok(Kind::Leaves),
+            64..=127 => Ok(Kind::Data(usize::from(byte - DATA_KIND_BASE))),
+            _ => Err(Refusal::UnknownKind),
+        }
+    }
+}
 
 // A data record has as many bytes as its kind is above this.
 const DATA_KIND_BASE: u8 = 63;
@@ -23,25 +51,15 @@ const DATA_KIND_BASE: u8 = 63;
 // A kind byte and a connection byte.
 pub const RECORD_HEAD_SIZE: usize = 2;
 
-fn is_data(kind: u8) -> bool
-    ensures { result ≡ is_data kind }
-{
-    if kind < LEAST_DATA {
-        return false;
+impl Kind {
+    fn data_size(self) -> usize
+        ensures { result ≡ kind_data self }
+    {
+        match self {
+            Kind::Data(size) => size,
+            Kind::Opens | Kind::Leaves => 0,
+        }
     }
-    kind <= MOST_DATA
-}
-
-fn known_kind(kind: u8) -> bool
-    ensures { result ≡ known_kind kind }
-{
-    if kind == slots::OPENS {
-        return true;
-    }
-    if kind == slots::LEAVES {
-        return true;
-    }
-    is_data(kind)
 }
 
 // How many bytes stand behind the connection byte.
@@ -49,109 +67,70 @@ pub fn data_size(kind: u8) -> usize
     ensures size { result ≡ data_size kind }
     ensures few { result ≤ max_arrived }
 {
-    if is_data(kind) {
-        return (kind - DATA_KIND_BASE) as usize;
+    match Kind::try_from(kind) {
+        Ok(known) => known.data_size(),
+        Err(_) => 0,
     }
-    0
 }
 
-fn known_connection(kind: u8, c: usize) -> bool
-    ensures { result ≡ known_connection kind c }
+// How many bytes a record has.
+fn size_of(next: Record) -> usize
+    requires { size_of next < 2 ^ 64 }
+    ensures { result ≡ size_of next.entry }
 {
-    if is_data(kind) {
-        return c <= slots::PLANT;
+    match next {
+        Record::Opens(_) | Record::Leaves(_) => RECORD_HEAD_SIZE,
+        Record::Came(_, arrived) => RECORD_HEAD_SIZE + arrived.len(),
     }
-    true
 }
 
-// The record at the start of some bytes: a refusal, or its kind, its connection and how many bytes came in.
-#[derive(Drop)]
-pub enum Next {
-    Refused(u8),
-    Found { kind: u8, c: usize, size: usize },
-}
-
-fn read_record(s: &[u8]) -> Next
-    ensures { (next_of s.now result ≡ next_record s.now) × NextFits s.now result }
+// The record at the start of some bytes.
+fn read_record<'a>(s: &'a [u8]) -> Result<Record<'a>, Refusal>
+    ensures next { next_of result ≡ next_record s.now }
+    ensures fits { IfOk result (λ next. Fits next × (size_of next ≤ length s.now)) }
 {
-    let Octet::There(kind) = field::read_u8(s, 0) else {
-        return Next::Refused(INCOMPLETE);
+    let Ok(byte) = field::read_u8(s, 0) else {
+        return Err(Refusal::Incomplete);
     };
-    if !known_kind(kind) {
-        return Next::Refused(UNKNOWN_KIND);
-    }
-    let Octet::There(connection) = field::read_u8(s, 1) else {
-        return Next::Refused(INCOMPLETE);
+    let kind = Kind::try_from(byte)?;
+    let Ok(connection) = field::read_u8(s, 1) else {
+        return Err(Refusal::Incomplete);
     };
-    let c = connection as usize;
-    if !known_connection(kind, c) {
-        return Next::Refused(UNKNOWN_KIND);
-    }
-    let size = data_size(kind);
-    if s.len() - RECORD_HEAD_SIZE < size {
-        return Next::Refused(INCOMPLETE);
-    }
-    Next::Found {
-        kind: kind,
-        c: c,
-        size: size,
+    let c = usize::from(connection);
+    match kind {
+        Kind::Opens => Ok(Record::Opens(c)),
+        Kind::Leaves => Ok(Record::Leaves(c)),
+        Kind::Data(size) => {
+            if c > slots::PLANT {
+                return Err(Refusal::UnknownKind);
+            }
+            if s.len() - RECORD_HEAD_SIZE < size {
+                return Err(Refusal::Incomplete);
+            }
+            Ok(Record::Came(c, &s[RECORD_HEAD_SIZE..][..size]))
+        }
     }
 }
 
 // ---- one record
 
-// What comes of the record at the start of some bytes: a refusal's number, or 0 and its size.
-#[derive(Drop)]
-pub struct Progress {
-    pub number: u8,
-    pub size: usize,
-}
-
-fn came_to(number: u8, size: usize) -> Progress
-    ensures { result ≡ record { number = number; size = size } }
-{
-    Progress {
-        number: number,
-        size: size,
-    }
-}
-
-// The record at the start of some bytes is done, or refused. What stands behind it is not looked at.
+// The record at the start of some bytes is done, or refused. How many bytes it has: what stands behind it is not looked at.
 pub fn advance(
-    heads: &mut [u16],
-    bytes: &mut [u8],
-    count: &mut u16,
-    marks: &mut [u8],
-    sizes: &mut [usize],
-    slots: &mut [u8],
+    memory: &mut Memory,
+    slots: &mut [Slot; RECORDED_CONNECTIONS],
     s: &[u8],
-) -> Progress
-    requires { Ready (lent_server heads.old bytes.old count.old marks.old) sizes.old slots.old }
-    ensures answer { ProgressIs result (advance max_entries
-        (state_of (lent_server heads.old bytes.old count.old marks.old) sizes.old slots.old)
-        s.now)
-        (state_of (lent_server heads.new bytes.new count.new marks.new) sizes.new slots.new) }
-    ensures ready { Ready (lent_server heads.new bytes.new count.new marks.new) sizes.new slots.new }
-    ensures within { result.size ≤ length s.now }
+) -> Result<usize, Refusal>
+    requires { SoundMemory max_entries (server_of memory.old) }
+    ensures same { SameMemory memory.old memory.new }
+    ensures answer { ProgressIs result
+        (advance max_entries (state_of (server_of memory.old) slots.old) s.now)
+        (state_of (server_of memory.new) slots.new) }
+    ensures sound { SoundMemory max_entries (server_of memory.new) }
+    ensures within { IfOk result (λ size. size ≤ length s.now) }
 {
-    match read_record(s) {
-        Next::Refused(number) => came_to(number, 0),
-        Next::Found { kind, c, size } => {
-            let end = RECORD_HEAD_SIZE + size;
-            slots::step(
-                heads,
-                bytes,
-                count,
-                marks,
-                sizes,
-                slots,
-                kind,
-                c,
-                &s[RECORD_HEAD_SIZE..end],
-            );
-            came_to(DONE, end)
-        }
-    }
+    let next = read_record(s)?;
+    slots::step(memory, slots, next);
+    Ok(size_of(next))
 }
 
 // ---- the run
@@ -160,74 +139,60 @@ pub fn advance(
 #[repr(C)]
 #[derive(Drop)]
 pub struct Replayed {
+    // Stays: the number of a run that is done, or of a refusal; C's struct has it as a byte.
     pub number: u8,
     pub records: usize,
 }
 
 // The answer on memory that is too short.
 pub const ON_SHORT: Replayed = Replayed {
-    number: UNSOUND,
+    number: Refusal::Unsound as u8,
     records: 0,
 };
 
-fn ended(number: u8, records: usize) -> Replayed
-    ensures { result ≡ record { number = number; records = records } }
-{
-    Replayed {
-        number: number,
-        records: records,
+impl Answered for Replayed {
+    ghost on_unsound = { record { number = unsound; records = 0 } };
+
+    ghost changes_heads = { λ r. true };
+
+    fn on_unsound() -> Replayed {
+        ON_SHORT
+    }
+
+    // Records before a refused one may have changed heads too.
+    fn changes_heads(&self) -> bool {
+        true
     }
 }
 
 // Record after record.
-fn run(
-    heads: &mut [u16],
-    bytes: &mut [u8],
-    count: &mut u16,
-    marks: &mut [u8],
-    sizes: &mut [usize],
-    slots: &mut [u8],
-    recorded: &[u8],
-) -> Replayed
-    requires { Ready (lent_server heads.old bytes.old count.old marks.old) sizes.old slots.old }
-    ensures { replayed result (lent_server heads.new bytes.new count.new marks.new)
-        ≡ result_of (run (length recorded.now) max_entries
-        (state_of (lent_server heads.old bytes.old count.old marks.old) sizes.old slots.old)
-        recorded.now) }
+fn run(memory: &mut Memory, slots: &mut [Slot; RECORDED_CONNECTIONS], recorded: &[u8]) -> Replayed
+    requires { SoundMemory max_entries (server_of memory.old) }
+    ensures same { SameMemory memory.old memory.new }
+    ensures ran { replayed result (server_of memory.new)
+        ≡ result_of (run (length recorded.now) max_entries (state_of (server_of memory.old) slots.old) recorded.now) }
 {
     let mut at = 0;
     let mut records = 0;
+    // Stays: records have sizes of their own.
     while at < recorded.len() {
-        let a = advance(heads, bytes, count, marks, sizes, slots, &recorded[at..]);
-        if a.number != DONE {
-            return ended(a.number, records);
+        match advance(memory, slots, &recorded[at..]) {
+            Ok(size) => {
+                at += size;
+                records += 1;
+            }
+            Err(refusal) => {
+                return Replayed {
+                    number: u8::from(refusal),
+                    records,
+                };
+            }
         }
-        at += a.size;
-        records += 1;
     }
-    ended(DONE, records)
-}
-
-// The fresh start and the run, with slots of which none holds anything.
-fn replay_on(
-    heads: &mut [u16],
-    bytes: &mut [u8],
-    count: &mut u16,
-    marks: &mut [u8],
-    sizes: &mut [usize],
-    slots: &mut [u8],
-    recorded: &[u8],
-) -> Replayed
-    requires { (sizes.old ≡ replicate recorded_connections 0) × (length slots.old ≡ slot_size * recorded_connections) }
-    ensures { replayed result (lent_server heads.new bytes.new count.new marks.new)
-        ≡ result_of (replay max_entries (lent_server heads.old bytes.old count.old marks.old)
-        recorded.now) }
-{
-    let a = start::fresh(heads, bytes, count, marks);
-    if a.number != DONE {
-        return ended(a.number, 0);
+    Replayed {
+        number: DONE,
+        records,
     }
-    run(heads, bytes, count, marks, sizes, slots, recorded)
 }
 
 // A line record run again, on lent memory with any contents.
@@ -242,7 +207,19 @@ pub fn replay(
         ≡ result_of (replay max_entries (lent_server heads.old bytes.old count.old marks.old)
         recorded.now) }
 {
-    let mut sizes = [0usize; slots::RECORDED_CONNECTIONS];
-    let mut slots = [0u8; slots::SLOTS_SIZE];
-    replay_on(heads, bytes, count, marks, &mut sizes, &mut slots, recorded)
+    let started = start::fresh(heads, bytes, count, marks);
+    if started.number != DONE {
+        return Replayed {
+            number: started.number,
+            records: 0,
+        };
+    }
+    let mut memory = Memory {
+        heads,
+        bytes,
+        count,
+        marks,
+    };
+    let mut slots = [Slot::empty(); RECORDED_CONNECTIONS];
+    run(&mut memory, &mut slots, recorded)
 }
