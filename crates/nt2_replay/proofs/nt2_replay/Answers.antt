@@ -1,9 +1,6 @@
-use Rattle.std.proofs.Common.{arith}
+use Rattle.std.proofs.Common.{rules, refl, inl, inr}
 use Rattle.nt2_replay.proofs.FewLaws.{few_replayed, replayed_call}
 use Rattle.nt2_replay.proofs.nt2_replay.Goals as goal
 
-pub returns-then-heads-lt-MAX_ENTRIES : goal.returns-then-heads-lt-MAX_ENTRIES
-returns-then-heads-lt-MAX_ENTRIES c = few_replayed _ _ _ c.if-heads-lt-MAX_ENTRIES.true _ _
-
 pub returns : goal.returns
-returns c = replayed_call _ _ _ c.load.ensures c.if-heads-lt-MAX_ENTRIES.false (omega arith) _ _ (omega arith) _ _ _ _ _ _ _ _ c.replay-r.ensures c.store.ensures
+returns c = elim c.change.ensures [ inl few ↦ search (rules, few_replayed) | inr m ↦ replayed_call _ _ m.flat _ _ _ _ _ _ _ _ (m.changed refl) m.past (search rules) ]
