@@ -1,10 +1,5 @@
 -- Laws of a record that is run in pieces, as it is read, and of its text.
-use mathlib.Core.Path.{◌≡◌, refl, sym, ap, ◌∙◌}
-use mathlib.Core.Logic.{◌≢◌}
-use mathlib.Core.List.{List, [], ◌++◌}
-use Prim.Native.Nat.{ℕ, suc, ◌+◌, ◌-◌, ◌*◌, ◌≤◌}
-use native.Mathlib.Omega.{arith}
-use lib.ListN.{length, take, drop, get_or, replicate, length-drop}
+use Rattle.std.proofs.Common.{◌≡◌, ◌≢◌, refl, sym, ap, ◌∙◌, List, [], ◌++◌, ℕ, suc, ◌+◌, ◌-◌, ◌*◌, ◌≤◌, arith, length, take, drop, get_or, replicate, length-drop, Ok, Err}
 use lib.Seq.{length-take-le}
 use Rattle.field.specs.Answer.{done}
 use Rattle.table.specs.Table.{max_entries, head_size, entry_size, entries_of}
@@ -16,10 +11,14 @@ use Rattle.line_record.specs.Replay.{RunState, Advanced, advance, Ran, stopped, 
 use Rattle.line_record.proofs.NextLaws.{advance_done}
 use Rattle.line_record.proofs.AnsweredLaws.{record_refused}
 use Rattle.line_record.proofs.RunLaws.{run_spent, run_refused, run_on, advance_looks_at, run_in_pieces}
-use Rattle.replay.specs.declared.Progress.{Progress}
+use Rattle.field.specs.Refusal.{refusal_number}
+use Rattle.field.specs.declared.Refusal.{Refusal}
 use Rattle.replay.specs.Lent.{ProgressIs}
+use Rattle.plant.proofs.PlantLaws.{refusal_stops}
+use Rattle.gather.specs.Slot.{held_in}
+use Rattle.gather.specs.declared.slot.Slot.{Slot}
 use Rattle.replay.proofs.StartLaws.{replay_ran}
-use Rattle.slots.specs.Slots.{state_in}
+use Rattle.slots.specs.Slots.{state_of}
 use Rattle.digits.specs.Put.{Put}
 use Rattle.table_text.specs.Text.{end_text}
 use Rattle.replay_main.specs.Shown.{result_text, replay_text, Runs, Shows}
@@ -71,14 +70,14 @@ module _ {s₀ s : RunState} (h : Runs s₀ done s) (p : List ℕ) (is_done : (a
       rw (← (ap (λ (x : Advanced). x.state) same)) (runs_more h q (behind 1 a.calls (stopped done a.state)) ran)
 
 -- as the code does a piece
-module _ {s₀ s : RunState} (h : Runs s₀ done s) (p : List ℕ) (r : Progress) (s' : RunState) (e : ProgressIs r (advance max_entries s p) s') where
-  pub piece_refused : 1 ≤ length p → r.number ≢ done → Runs s₀ r.number s'
-  piece_refused some ne =
-      let other : (advance max_entries s p).number ≢ done = λ d. ne (e.number ∙ d) in
+module _ {s₀ s : RunState} (h : Runs s₀ done s) (p : List ℕ) (s' : RunState) where
+  pub piece_refused : (refusal : Refusal) → ProgressIs (Err refusal) (advance max_entries s p) s' → 1 ≤ length p → Runs s₀ (refusal_number refusal) s'
+  piece_refused refusal e some =
+      let other : (advance max_entries s p).number ≢ done = λ d. (let k = rw (e.number ∙ d) at (refusal_stops refusal) in absurd cc) in
       rw (e.number, e.state ∙ (record_refused max_entries s p other).0) (runs_refused h p some other)
 
-  pub piece_done : r.number ≡ done → Runs s₀ done s'
-  piece_done d = rw e.state (runs_on h p (sym e.number ∙ d))
+  pub piece_done : (size : ℕ) → ProgressIs (Ok size) (advance max_entries s p) s' → Runs s₀ done s'
+  piece_done size e = rw e.state (runs_on h p (sym e.number))
 
 -- ---- the text
 
@@ -89,13 +88,14 @@ start_done mem h b m =
     ap (λ (r : StartResult). r.number) (fresh_start_done max_entries mem (record { heads_hold = omega (arith, h); bytes_hold = omega (arith, b) }) (omega (arith, m)))
 
 module _ (mem fresh : ServerMemory) (number : ℕ) (e : number ≡ (fresh_start max_entries mem).number) (f : fresh ≡ (fresh_start max_entries mem).memory) (d : number ≡ done)
-    (sizes slots : List ℕ) (none : sizes ≡ replicate recorded_connections 0) where
-  pub shows : (n : ℕ) (mem' : ServerMemory) (sizes' slots' buffer text : List ℕ) (end : ℕ) → Runs (state_in fresh sizes slots) n (state_in mem' sizes' slots')
+    (slot : Slot) (empty : held_in slot ≡ []) where
+  pub shows : (n : ℕ) (mem' : ServerMemory) (slots : List Slot) (buffer text : List ℕ) (end : ℕ)
+      → Runs (state_of fresh (replicate recorded_connections slot)) n (state_of mem' slots)
       → Put buffer 0 (end_text n (entries_of mem'.table)) text end → Shows mem buffer text end
   unfolding replay_text
-  shows n mem' sizes' slots' buffer text end h p =
-      let r = run (length h.recorded) max_entries (state_in fresh sizes slots) h.recorded in
-      let whole : result_of r ≡ result_of (replay max_entries mem h.recorded) = replay_ran mem fresh h.recorded number e f d sizes slots none (result_of r) refl in
+  shows n mem' slots buffer text end h p =
+      let r = run (length h.recorded) max_entries (state_of fresh (replicate recorded_connections slot)) h.recorded in
+      let whole : result_of r ≡ result_of (replay max_entries mem h.recorded) = replay_ran mem fresh h.recorded number e f d slot empty (result_of r) refl in
       let memory : r.state.memory ≡ mem' = ap (λ (s : RunState). s.memory) h.state_is in
       let same : result_text (result_of r) ≡ end_text n (entries_of mem'.table) = rw (h.number_is, memory) in
       record { recorded = h.recorded; shown = rw (← (ap result_text whole), same) p }

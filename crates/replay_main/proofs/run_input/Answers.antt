@@ -1,17 +1,15 @@
-use Rattle.std.proofs.Common.{◌∙◌, refl, arith, length-take}
+use Rattle.std.proofs.Common.{arith, rules, length-take}
 use Rattle.replay_main.proofs.ShownLaws.{runs_nothing, piece_refused, piece_done}
 use Rattle.replay_main.proofs.run_input.Goals as goal
 
-pub loop-left-init : goal.loop-left-init
-loop-left-init g c = record { runs = runs_nothing _; ready = c.requires.ready; piece = refl }
+pub loop-init : goal.loop-init
+loop-init g c = record { same = search rules; runs = runs_nothing _; sound = c.requires }
 
-pub returns-then-a-ne-DONE-clause-runs : goal.returns-then-a-ne-DONE-clause-runs
-returns-then-a-ne-DONE-clause-runs g c =
-    piece_refused c.loop-left.invariant.runs _ c.advance-a.result _ c.advance-a.ensures.answer (simp length-take (omega arith)) c.if-a-ne-DONE.true
+pub returns-in-Err-clause-runs : goal.returns-in-Err-clause-runs
+returns-in-Err-clause-runs g c =
+    rw c.from.ensures (piece_refused c.loop.invariant.runs _ _ c.in-Err.refusal c.in-Err.ensures.answer (simp length-take (omega arith)))
 
-pub loop-left-preserved : goal.loop-left-preserved
-loop-left-preserved g c = record {
-  runs = piece_done c.loop-left.invariant.runs _ c.advance-a.result _ c.advance-a.ensures.answer c.if-a-ne-DONE.false;
-  ready = c.advance-a.ensures.ready;
-  piece = c.read_piece.auto.piece ∙ c.loop-left.invariant.piece;
-}
+pub loop-preserved : goal.loop-preserved
+loop-preserved g c =
+    let same = c.loop.invariant.same in
+    record { same = search rules; runs = piece_done c.loop.invariant.runs _ _ c.in_default.field-0 c.in_default.ensures.answer; sound = c.in_default.ensures.sound }

@@ -1,19 +1,15 @@
--- What was read so far is a record that is run, and the state is ready for the next one.
-use Rattle.std.proofs.Common.{length, ◌≡◌}
+-- What was read so far is a record that is run, and memory is sound for the next one.
 use Rattle.field.specs.Answer.{done}
-use Rattle.protocol.specs.Lent.{lent_server}
-use Rattle.slots.specs.Slots.{state_of, Ready}
+use Rattle.table.specs.Table.{max_entries}
+use Rattle.protocol.specs.Kept.{SoundMemory}
+use Rattle.protocol.specs.Memory.{server_of, SameMemory}
+use Rattle.slots.specs.Slots.{state_of}
 use Rattle.replay_main.specs.Shown.{Runs}
 use Rattle.replay_main.proofs.run_input.Given as goal
 
-abbrev pub invariant-loop-left : goal.invariant-loop-left
-invariant-loop-left g l = record {
-  runs : Runs (state_of (lent_server l.initial.heads l.initial.bytes l.initial.count l.initial.marks) l.initial.sizes l.initial.slots)
-      done
-      (state_of (lent_server l.heads l.bytes l.count l.marks) l.sizes l.slots);
-  ready : Ready (lent_server l.heads l.bytes l.count l.marks) l.sizes l.slots;
-  piece : length l.piece ≡ length l.initial.piece;
+abbrev pub invariant-loop : goal.invariant-loop
+invariant-loop g l = record {
+  same : SameMemory l.initial.memory l.memory;
+  runs : Runs (state_of (server_of l.initial.memory) l.initial.slots) done (state_of (server_of l.memory) l.slots);
+  sound : SoundMemory max_entries (server_of l.memory);
 }
-
-abbrev pub decreases-loop-left : goal.decreases-loop-left
-decreases-loop-left g l = l.left
