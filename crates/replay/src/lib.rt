@@ -22,6 +22,12 @@ use slots::{RECORDED_CONNECTIONS, Record};
 
 // ---- what is recorded
 
+// A data record has as many bytes as its kind is above this.
+const DATA_KIND_BASE: u8 = 63;
+
+// A kind byte and a connection byte.
+pub const RECORD_HEAD_SIZE: usize = 2;
+
 // Kinds of a record: a connection opens, it leaves, or so many bytes came in for it.
 #[derive(Clone, Copy, PartialEq, Eq)]
 pub enum Kind {
@@ -44,12 +50,6 @@ impl TryFrom<u8> for Kind {
         }
     }
 }
-
-// A data record has as many bytes as its kind is above this.
-const DATA_KIND_BASE: u8 = 63;
-
-// A kind byte and a connection byte.
-pub const RECORD_HEAD_SIZE: usize = 2;
 
 impl Kind {
     fn data_size(self) -> usize
@@ -144,19 +144,16 @@ pub struct Replayed {
     pub records: usize,
 }
 
-// The answer on memory that is too short.
-pub const ON_SHORT: Replayed = Replayed {
-    number: Refusal::Unsound as u8,
-    records: 0,
-};
-
 impl Answered for Replayed {
     ghost on_unsound = { record { number = unsound; records = 0 } };
 
     ghost changes_heads = { λ r. true };
 
     fn on_unsound() -> Replayed {
-        ON_SHORT
+        Replayed {
+            number: u8::from(Refusal::Unsound),
+            records: 0,
+        }
     }
 
     // Records before a refused one may have changed heads too.
