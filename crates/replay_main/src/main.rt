@@ -41,7 +41,7 @@ fn read_piece(input: &mut impl Read, piece: &mut [u8; PIECE_SIZE]) -> io::Result
 }
 
 // Does record after record, until the input ends or one is refused, and returns its number. Every loop has to end: this one would
-// after 2^64 records. The only error is that of a read: the records before it are done.
+// after 2^64 records. The only error is that of a read: the records before it are done. Stays: the text ends with the number.
 fn run_input(
     input: &mut impl Read,
     memory: &mut Memory,
