@@ -35,6 +35,7 @@ pub trait Answered {
 }
 
 // The answer on memory that is unsound or too small: a number alone. All other answers are made of it.
+// Stays: `as u8`, since no From may be called in a constant.
 pub const ON_UNSOUND: Answer = Answer {
     number: Refusal::Unsound as u8,
     recipients: 0,
@@ -73,6 +74,7 @@ pub fn no_room() -> Answer
     }
 }
 
+// Stays, and so does `ignored`: crates client and fields have functions like them, for structs of C's with other fields.
 pub fn refused(fault: Fault) -> Answer
     ensures { result ≡ refused_answer fault }
 {

@@ -6,6 +6,7 @@ ghost use Rattle.digits.specs.Digits.{decimal_text, hex_digit, hex_text};
 ghost use Rattle.digits.specs.Put.{Puts};
 
 // A buffer, and where the text so far ends in it.
+// Stays: a buffer with its end, since a String needs a heap.
 #[derive(Drop)]
 pub struct Text<'a> {
     pub bytes: &'a mut [u8],
@@ -13,6 +14,7 @@ pub struct Text<'a> {
 }
 
 // Each of these puts text behind the text so far, as far as there is room.
+// Stays: digits by hand, since std says nothing of a `write!` that fails, and these digits are promised without fail.
 impl Text<'_> {
     #[tactic(auto, using(crate::proofs::PutLaws::overwrite_past), unfolding(crate::specs::Put::with_text, field::specs::Octets::overwrite_at))]
     pub fn byte(&mut self, b: u8)
@@ -31,12 +33,12 @@ impl Text<'_> {
         ensures { Puts self.old self.new s.now }
     {
         self.end = self.end.min(self.bytes.len());
+        // Stays: byte by byte, as the text is cut where the room ends. A slice copied at once would say the same in more lines.
         for b in s {
             self.byte(*b);
         }
     }
 
-    // Stays: std says nothing of a `write!` that fails, and these digits are promised without fail.
     #[tactic(auto, using(crate::proofs::PutLaws::with_text_next, crate::proofs::DigitLaws::one_digit, crate::proofs::DigitLaws::more_digits))]
     pub fn decimal(&mut self, n: usize)
         ensures { Puts self.old self.new (decimal_text n) }

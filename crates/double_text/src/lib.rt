@@ -55,6 +55,7 @@ fn bits_of(s: &[u8]) -> u64
 
 // ---- digits
 
+// Stays: `k ≤ most_places` is asked here and of two callers. A type of its own for k would be no plainer.
 #[tactic(auto, using(crate::proofs::DoubleLaws::power_most))]
 fn power_of_two(k: usize) -> usize
     requires { k ≤ most_places }
@@ -73,6 +74,7 @@ fn put_binary(text: &mut Text, k: usize, r: usize)
 {
     let mut places = k;
     let mut left = r;
+    // Stays: no range over the places, since it ends at the last digit that is not 0.
     while left != 0 {
         places -= 1;
         let unit = power_of_two(places);

@@ -7,11 +7,8 @@ use lib.Dec.{eqb}
 use lib.ListN.{length}
 use lib.Pointwise.{pointwise}
 use borrow.Author.Tests.{eqb-true, eq-eqb}
+use Rattle.std.proofs.lemmas.Bool.{false_from_ne_true}
 use Rattle.field.specs.Octets.{bytes_equal}
-
-pub is_false : (t : Bool) → (t ≡ true → ⊥) → t ≡ false
-is_false true h = absurd (h refl)
-is_false false h = refl
 
 -- ---- two lists of bytes
 
@@ -33,7 +30,7 @@ pub equal_bytes : (a b : List ℕ) → a ≡ b → bytes_equal a b ≡ true
 equal_bytes a b e = rw e (bytes_equal_refl b)
 
 pub bytes_equal_false : (a b : List ℕ) → (a ≡ b → ⊥) → bytes_equal a b ≡ false
-bytes_equal_false a b h = is_false (bytes_equal a b) (λ e. h (bytes_equal_true a b e))
+bytes_equal_false a b h = false_from_ne_true (bytes_equal a b) (λ e. h (bytes_equal_true a b e))
 
 pub bytes_equal_sym : (a b : List ℕ) → bytes_equal a b ≡ bytes_equal b a
 bytes_equal_sym a b = go (bytes_equal a b) (bytes_equal b a) (λ h. equal_bytes b a (sym (bytes_equal_true a b h))) (λ h. equal_bytes a b (sym (bytes_equal_true b a h)))

@@ -10,6 +10,7 @@ ghost use Rattle.field.specs.Place.{reported_place};
 use std::marker::Model;
 
 // The numbers of a call that is done, and of one that is ignored. specs/Answer.antt has each number with its meaning.
+// Stays: numbers, since C's answers have them as bytes.
 pub const DONE: u8 = 0;
 
 pub const IGNORED: u8 = 16;
@@ -111,6 +112,7 @@ impl Fault {
 }
 
 // The byte at a place: a field that is not there ends the reading.
+#[tactic(auto, unfolding(crate::specs::Field::octet_at, crate::specs::Choice::pick))]
 pub fn read_u8(s: &[u8], at: usize) -> Result<u8, Fault>
     ensures { result ≡ octet_at s.now at }
 {
@@ -129,6 +131,7 @@ pub fn u16_at(s: &[u8], at: usize) -> u16
 }
 
 // The same, where it may not be there.
+#[tactic(auto, unfolding(crate::specs::Field::number_at, crate::specs::Choice::pick))]
 pub fn read_u16(s: &[u8], at: usize) -> Result<u16, Fault>
     ensures { result ≡ number_at s.now at }
 {
@@ -143,13 +146,11 @@ pub fn moved(parsed: Result<usize, Fault>, from: usize) -> Result<usize, Fault>
     requires { from + (fault_of parsed).place < 2 ^ 64 }
     ensures { result ≡ moved_by from parsed }
 {
-    match parsed {
-        Err(fault) => Err(fault.moved(from)),
-        Ok(n) => Ok(n),
-    }
+    parsed.map_err(|fault| fault.moved(from))
 }
 
 // Stores one byte at a place.
+#[tactic(auto, unfolding(crate::specs::Octets::overwrite_at))]
 pub fn put_u8(out: &mut [u8], at: usize, x: u8)
     requires { at + octet_size ≤ length out.old }
     ensures { out.new ≡ overwrite_at out.old at (x ∷ []) }
@@ -162,9 +163,7 @@ pub fn put_u16(out: &mut [u8], at: usize, x: u16)
     requires { at + number_size ≤ length out.old }
     ensures { out.new ≡ overwrite_at out.old at (encode16 x) }
 {
-    let [high, low] = x.to_be_bytes();
-    out[at] = high;
-    out[at + 1] = low;
+    copy_into(out, at, &x.to_be_bytes());
 }
 
 // Stores all bytes of `src` from a place on.

@@ -73,6 +73,7 @@ pub const VALUE_BEHIND_NAME: usize = 5;
 pub const ASSIGNMENT_FIXED: usize = 8;
 
 // How many bytes an assignment has at most.
+// Stays: `as usize`, since no From may be called in a constant.
 pub const LONGEST_ASSIGNMENT: usize = ASSIGNMENT_FIXED
     + (MAX_NAME_LENGTH as usize)
     + (value::MAX_VALUE_SIZE as usize);
@@ -83,6 +84,7 @@ pub const UPDATE_NUMBER_START: usize = 3;
 pub const UPDATE_VALUE_START: usize = 5;
 
 // Which IDs an assignment may carry.
+// Stays: Option<u16> in other words. It would be no plainer: about thirty files of definitions say it by these names.
 #[derive(Clone, Copy, PartialEq, Eq)]
 pub enum AllowedId {
     Any,

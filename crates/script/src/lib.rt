@@ -15,7 +15,7 @@ const DIGITS: usize = 2;
 
 // Reads until the buffer is full or the input ends, and returns how many bytes. The only error is that of a read: what was read
 // before it stands at the buffer's start too.
-// Stays a loop: `read_exact` tells no number where the input ends early, and reads again where a signal interrupts.
+// Stays: a loop, since `read_exact` tells no number where the input ends early, and reads again where a signal interrupts.
 pub fn read_full<R: Read>(input: &mut R, buffer: &mut [u8]) -> io::Result<usize>
     ensures within { IfOk result (λ n. n ≤ length buffer.new) }
     ensures bytes { IfOk result (λ n. Consumes (R.remaining input.old) (R.remaining input.new) (take n buffer.new)) }
@@ -41,11 +41,6 @@ pub fn end_line(rt: &impl Print) -> io::Result<()> {
     word(rt, b"\n")
 }
 
-// A space and a number.
-pub fn figure(rt: &impl Print, n: usize) -> io::Result<()> {
-    print!(rt; " {n}")
-}
-
 // Where a byte stands from a place on: the end where it does not.
 pub fn find(s: &[u8], from: usize, b: u8) -> usize
     requires { from ≤ length s.now }
@@ -58,6 +53,7 @@ pub fn find(s: &[u8], from: usize, b: u8) -> usize
 }
 
 // The byte at a place: 0 where it is not there.
+// Stays: this and the three below are a line each. To share them with the readers of messages, those crates would stand on this one.
 pub fn octet(s: &[u8], at: usize) -> u8
     ensures { result ≡ slice_index s.now at }
 {
@@ -87,6 +83,7 @@ pub fn before(s: &[u8], n: usize) -> &[u8]
 }
 
 // What a hex digit stands for. Other characters stand for something too.
+// Stays: by hand, since `to_digit` knows digits alone, and what other characters stand for may not change.
 fn digit(c: u8) -> u8
     ensures { result ≤ 15 }
 {
@@ -152,6 +149,7 @@ pub fn decode(line: &[u8], from: usize, seed: u64, out: &mut [u8]) -> usize
 {
     let mut rest = after(line, from);
     let mut end = 0;
+    // Stays: pieces have sizes of their own, and where each ends is found when it is split off.
     while let Some((piece, behind)) = split_piece(rest) {
         let (b, times) = piece.run(seed, end);
         let next = end + usize::from(times).min(out.len() - end);

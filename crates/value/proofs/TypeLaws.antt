@@ -7,7 +7,7 @@ use mathlib.Core.Logic.{◌≢◌}
 use borrow.Author.Tests.{le-leb, lt-leb}
 use Rattle.field.specs.declared.Refusal.{Refusal}
 use Rattle.field.specs.declared.Refusal.TheVariants.{UnknownType}
-use Rattle.field.proofs.EqualLaws.{is_false}
+use Rattle.std.proofs.lemmas.Bool.{false_from_ne_true}
 use Rattle.value.proofs.ValueLaws.{known_array, known_small}
 use Rattle.field.specs.Choice.{pick}
 use Rattle.field.specs.Field.{fault_at}
@@ -35,7 +35,7 @@ known_is_ok code r (IsTypeOf.unknown h) = sym h
 
 -- and no other is
 pub unknown_code : (code : ℕ) → code ≢ 0x00 → code ≢ 0x01 → code ≢ 0x02 → code ≢ 0x10 → code ≢ 0x11 → code ≢ 0x12 → known_type code ≡ false
-unknown_code code a b c d e f = is_false (known_type code) (λ k. elim (dec_le code 2) [
+unknown_code code a b c d e f = false_from_ne_true (known_type code) (λ k. elim (dec_le code 2) [
   | yes low ↦ omega arith
   | no high ↦ omega (arith, known_array code (omega arith) k, known_small code k)
 ])

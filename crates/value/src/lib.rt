@@ -43,6 +43,7 @@ impl TryFrom<u8> for ValueType {
 }
 
 // The codes of a Boolean and a Double, and of an array of Booleans.
+// Stays: numbers beside the enum. Crates scalar and table_text read a type by its code, and a table may hold any number there.
 pub const BOOLEAN: u8 = 0x00;
 
 pub const DOUBLE: u8 = 0x01;
@@ -130,6 +131,7 @@ fn read_elements(element: Element, count: u8, s: &[u8]) -> Result<usize, Fault>
         ≡ elements (parse_element (element_code element)) count count_size (drop count_size s.now) }
 {
     let mut at = COUNT_SIZE;
+    // Stays: the place is moved by hand, since texts have sizes of their own.
     for _ in 0..count {
         at += element_at(element, s, at)?;
     }
