@@ -4,7 +4,7 @@ use Rattle.field.specs.Field.{Parsed}
 use mathlib.Core.Path.{◌≡◌}
 use mathlib.Core.Logic.{◌≢◌}
 use mathlib.Core.List.{List}
-use Prim.Native.Nat.{ℕ, ◌≤◌}
+use Prim.Native.Nat.{ℕ, ◌+◌, ◌*◌, ◌≤◌}
 use lib.ListN.{length, get_or}
 use Rattle.std.specs.Prelude.{eqb}
 use borrow.Author.Tests.{leb-true, ne_eqb}
@@ -12,8 +12,17 @@ use Rattle.field.specs.Choice.{pick}
 use Rattle.field.specs.declared.Fault.{Fault}
 use Rattle.field.proofs.ChoiceLaws.{by_test}
 use Rattle.value.specs.Value.{parse_boolean, parse_double, parse_element, parse_value, IsValue}
-use Rattle.scalar.specs.Scalar.{double_of, scalar_of}
+use native.Mathlib.Omega.{arith}
+use Rattle.field.proofs.OctetsLaws.{decode_at}
+use Rattle.scalar.specs.Scalar.{decode64, double_of, scalar_of}
 use Rattle.scalar.specs.declared.Scalar.TheVariants.{Boolean, Double, Neither}
+
+-- the number of eight bytes, byte by byte
+pub eight_bytes : (s : List ℕ)
+    → decode64 s
+    ≡ ((((((get_or s 0 0 * 256 + get_or s 1 0) * 256 + get_or s 2 0) * 256 + get_or s 3 0) * 256 + get_or s 4 0) * 256 + get_or s 5 0) * 256 + get_or s 6 0) * 256 + get_or s 7 0
+unfolding decode64
+eight_bytes s = rw (decode_at s 2, decode_at s 4, decode_at s 6) (omega (arith, decode_at s 0))
 
 -- a reader that takes something takes what has a length of at least n
 data Long (n : ℕ) (s : List ℕ) : Parsed → Type 0 where

@@ -7,6 +7,7 @@ ghost use Rattle.std.specs.Float.Ieee.{of_bits};
 ghost use Rattle.value.specs.Value.{double_size, IsValue};
 ghost use Rattle.scalar.specs.Scalar.{decode64, scalar_of, equal_values};
 
+use std::array;
 use value::{BOOLEAN, DOUBLE, TRUE};
 
 // A Double's pattern: its sign, and the pattern of an infinity. A pattern that is above it beside its sign is a NaN's.
@@ -19,18 +20,21 @@ const INFINITY: u64 = f64::to_bits(f64::INFINITY);
 pub enum Scalar {
     Boolean(bool),
     Double(f64),
+    // Stays: no Option of the other two, since the definition has this case.
     Neither,
 }
 
 // The number of the first eight bytes, the highest one first.
+#[tactic(auto, using(crate::proofs::ShapeLaws::eight_bytes))]
 fn read_u64(s: &[u8]) -> u64
     requires { double_size ≤ length s.now }
     ensures { result ≡ decode64 s.now }
 {
-    u64::from_be_bytes([s[0], s[1], s[2], s[3], s[4], s[5], s[6], s[7]])
+    u64::from_be_bytes(array::from_fn(|i| s[i]))
 }
 
 // The Double of a bit pattern, a NaN for each pattern of a NaN.
+// Stays: a test by hand, since `from_bits` would keep a NaN's pattern, and one NaN is promised for all.
 fn double_of(n: u64) -> f64
     ensures { result ≡ of_bits binary64 n }
 {
