@@ -35,7 +35,7 @@ pub fn write_revision(out: &mut [u8], kind: Kind, revision: u16) -> usize
     REVISION_LENGTH
 }
 
-// Stays: a line stores a field at its place, as the layout has it. A cursor that moves says no more.
+// Stays, here and below: a line stores a field at its place, as the layout has it. A cursor that moves says no more.
 #[tactic(auto, using(field::proofs::OverwriteLaws::overwrite_append, field::proofs::OctetsLaws::length_encode16), unfolding(message::specs::Layout::assignment_bytes, field::specs::Octets::encode16))]
 pub fn write_assignment(out: &mut [u8], id: u16, entry: LentEntry) -> usize
     requires name_fits { length entry.name.now ≤ max_name_length }

@@ -19,7 +19,8 @@ use table::Table;
 
 pub const CONNECTIONS: usize = 16;
 
-// Connection marks. Stays: C lends them as bytes.
+// Connection marks.
+// Stays: numbers, since C lends marks as bytes, and a byte above 2 may be lent.
 pub const CLOSED: u8 = 0;
 
 pub const OPEN: u8 = 1;
@@ -107,11 +108,10 @@ fn entry_is_sound(table: Table, i: usize) -> bool
     if !utf8::is_utf8(table.name_of(i)) {
         return false;
     }
-    let type_code = table.type_of(i);
-    if type_code > 255 {
+    let Ok(type_code) = u8::try_from(table.type_of(i)) else {
         return false;
-    }
-    value::read_lone(type_code as u8, table.value_of(i)).is_ok()
+    };
+    value::read_lone(type_code, table.value_of(i)).is_ok()
 }
 
 #[tactic(auto, using(crate::proofs::BelowLaws::all_more, crate::proofs::BelowLaws::all_false, crate::proofs::BelowLaws::all_none))]
@@ -213,7 +213,8 @@ pub fn next_owner(owner: u8, i: usize) -> u8
     if owner == 0 { (i + 1) as u8 } else { SEVERAL }
 }
 
-// Each fingerprint's owner so far, 0 where it has none. Stays: an enum of two bytes each takes 10 ns more to clear, at each call on a table.
+// Each fingerprint's owner so far, 0 where it has none.
+// Stays: a byte each, since an enum of two bytes each takes 10 ns more to clear, at each call on a table.
 #[derive(Drop)]
 pub struct Owners {
     owners: [u8; FINGERPRINTS],
@@ -288,7 +289,8 @@ pub fn table_is_sound(table: Table) -> bool
     names_differ(table)
 }
 
-// Whether 16 connection marks are there, each one of the three. They are looked at all at once, with no way out.
+// Whether 16 connection marks are there, each one of the three.
+// Stays: no `all`, since all are looked at in one pass with no way out, which is faster.
 #[tactic(auto, unfolding(crate::specs::Sound::sound_marks, crate::specs::Sound::all_below))]
 pub fn marks_are_sound(marks: &[u8]) -> bool
     ensures { result ≡ sound_marks marks.now }

@@ -10,7 +10,8 @@ use lib.Seq.{length-take-le}
 use borrow.Author.Tests.{ltb-true, le-ltb, lt-ltb}
 use Rattle.message.specs.Layout.{Entry}
 use Rattle.field.specs.Octets.{bytes_equal}
-use Rattle.field.proofs.EqualLaws.{is_false, bytes_equal_true, bytes_equal_false, equal_bytes}
+use Rattle.std.proofs.lemmas.Bool.{false_from_ne_true}
+use Rattle.field.proofs.EqualLaws.{bytes_equal_true, bytes_equal_false, equal_bytes}
 use Rattle.std.specs.Option.{is_some}
 use Rattle.std.specs.Prelude.{Some, None}
 use mathlib.Core.Logic.{◌≢◌}
@@ -99,7 +100,7 @@ differ_next i f = rw add-one (differ_last (tabulate i f) (f i))
 -- entry i's name is held by one before it
 pub differ_held : (n : ℕ) (f : ℕ → Entry) (i : ℕ) → i < n → name_held (f i).name (tabulate i f) ≡ true → names_differ (tabulate n f) ≡ false
 unfolding name_held
-differ_held n f i l t = is_false (names_differ (tabulate n f)) (λ d. differ_below n f d (holder (f i).name (tabulate i f)) i h l same)
+differ_held n f i l t = false_from_ne_true (names_differ (tabulate n f)) (λ d. differ_below n f d (holder (f i).name (tabulate i f)) i h l same)
   where
     h : holder (f i).name (tabulate i f) < i
     h = omega (arith, ltb-true (holder (f i).name (tabulate i f)) (length (tabulate i f)) t, length_tabulate i f)

@@ -20,6 +20,7 @@ use reader::Reader;
 pub const MAX_ENTRIES: usize = 64;
 
 // The places of a name and of a value.
+// Stays: `as usize`, since no From may be called in a constant.
 pub const NAME_SIZE: usize = message::MAX_NAME_LENGTH as usize;
 
 pub const VALUE_SIZE: usize = value::MAX_VALUE_SIZE as usize;
@@ -27,6 +28,7 @@ pub const VALUE_SIZE: usize = value::MAX_VALUE_SIZE as usize;
 // An entry's bytes: its name's, and then its value's.
 pub const ENTRY_SIZE: usize = NAME_SIZE + VALUE_SIZE;
 
+// Stays: heads are a flat list of numbers, since definitions and theorems say so of a table's memory; C's heads are loaded into them.
 pub const HEAD_SIZE: usize = 4;
 
 // A head's numbers, by their place in it.
@@ -46,6 +48,7 @@ pub const BYTES_SIZE: usize = ENTRY_SIZE * MAX_ENTRIES;
 // ---- a table that is read
 
 // The heads' numbers, the entries' bytes, and how many entries there are. What is lent may be of any length.
+// Stays: methods ask for what they read, since a table that is lent may be unsound. SoundTable asks for none of it.
 #[derive(Clone, Copy)]
 pub struct Table<'a> {
     pub heads: &'a [u16],
@@ -59,13 +62,6 @@ impl<'a> Table<'a> {
         ensures { result ≡ self.entry.count }
     {
         usize::from(self.count)
-    }
-
-    // The same table, with so many entries.
-    pub fn first(self, count: u16) -> Table<'a>
-        ensures { (result.heads ≡ self.entry.heads) × (result.bytes ≡ self.entry.bytes) × (result.count ≡ count) }
-    {
-        Table { count, ..self }
     }
 
     fn head_field(self, i: usize, place: usize) -> u16
@@ -178,6 +174,7 @@ pub fn is_name(held: &[u8], name: &[u8]) -> bool
 
 // ---- storing
 
+// Stays, here and below: heads, bytes and count are parameters. A struct of them under Memory is no plainer: each caller has them apart.
 // Stores an entry's head and bytes.
 #[tactic(auto, unfolding(crate::specs::Table::heads_with_entry, crate::specs::Table::bytes_with_entry))]
 pub fn store_entry(heads: &mut [u16], bytes: &mut [u8], id: usize, entry: LentEntry)
@@ -196,6 +193,7 @@ pub fn store_entry(heads: &mut [u16], bytes: &mut [u8], id: usize, entry: LentEn
 }
 
 // Stores another number and value of an entry.
+// Stays: ID, number and value are three parameters. A struct of them would be taken apart again at once.
 #[tactic(auto, unfolding(crate::specs::Table::heads_with_value, crate::specs::Table::bytes_with_value))]
 pub fn store_value(heads: &mut [u16], bytes: &mut [u8], id: usize, number: u16, value: &[u8])
     requires memory { Holds (id + 1) heads.old bytes.old }

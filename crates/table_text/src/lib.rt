@@ -5,7 +5,7 @@ ghost use Rattle.std.specs.Prelude.{◌≡◌, ◌∷◌, [], ◌+◌, ◌/◌, 
 ghost use Rattle.value.specs.Value.{string};
 ghost use Rattle.value.specs.Types.{element_code, type_code};
 ghost use Rattle.message.specs.Lent.{entry_lent};
-ghost use Rattle.table.specs.Table.{lent, entries_of, Readable};
+ghost use Rattle.table.specs.Table.{entries_of, Readable};
 ghost use Rattle.table.specs.Memory.{memory_of};
 ghost use Rattle.digits.specs.Digits.{hex_digit};
 ghost use Rattle.digits.specs.Put.{Put, Puts};
@@ -20,6 +20,7 @@ use table::Table;
 use value::{Element, ValueType};
 
 // An array's code less this is the code of its elements.
+// Stays: `as u16`, since no From may be called in a constant.
 const ARRAY_OF: u16 = value::BOOLEAN_ARRAY as u16;
 
 // The first n bytes of a value, or all.
@@ -50,7 +51,7 @@ fn put_quoted_byte(text: &mut Text, b: u8)
 {
     match b {
         b'"' | b'\\' => text.bytes(&[b'\\', b]),
-        0..=31 | 127 => put_coded(text, b),
+        _ if b.is_ascii_control() => put_coded(text, b),
         _ => text.byte(b),
     }
 }
@@ -69,6 +70,7 @@ fn put_quoted(text: &mut Text, s: &[u8])
 // ---- types
 
 // The elements that are shown for a code: those of a String, where it is no other's.
+// Stays: codes, since a table may hold any number as a type, and a text is shown for each.
 fn element_of(code: u16) -> Element
     ensures { element_code result ≡ min code string }
 {
@@ -156,6 +158,7 @@ fn put_elements(text: &mut Text, count: u8, element: Element, s: &[u8])
     ensures { Puts text.old text.new (element_texts count (element_code element) s.now) }
 {
     let mut left = s;
+    // Stays: what is left is moved by hand, since elements have sizes of their own.
     for _ in 0..count {
         text.byte(b' ');
         put_element(text, element, left);
@@ -196,6 +199,7 @@ fn put_entry(text: &mut Text, id: usize, entry: LentEntry)
 }
 
 // The number where a run was refused; nothing where it was not.
+// Stays: no Result, since C's answers have the number as a byte, and the text shows that number.
 #[tactic(auto, using(digits::proofs::PutLaws::putting), unfolding(crate::specs::Text::refused_text, field::specs::Choice::pick))]
 fn put_refused(text: &mut Text, number: u8)
     requires { text.old.end ≤ length text.old.bytes.now }
@@ -223,16 +227,10 @@ fn put_lines(text: &mut Text, table: Table, number: u8)
 
 // Puts the table at the end of a run, and what ended it, at the start of a buffer.
 #[tactic(auto, unfolding(digits::specs::Put::with_text))]
-pub fn put_table(heads: &[u16], bytes: &[u8], count: u16, number: u8, text: &mut [u8]) -> usize
-    requires { Readable count heads.now bytes.now }
-    ensures { Put text.old 0 (end_text number (entries_of (lent heads.now bytes.now count)))
-        text.new result }
+pub fn put_table(table: Table, number: u8, text: &mut [u8]) -> usize
+    requires { Readable table.count table.heads.now table.bytes.now }
+    ensures { Put text.old 0 (end_text number (entries_of (memory_of table.entry))) text.new result }
 {
-    let table = Table {
-        heads,
-        bytes,
-        count,
-    };
     let mut text = Text {
         bytes: text,
         end: 0,

@@ -1,7 +1,7 @@
 -- `table_is_sound` meets its contract: sizes and count, then the entries, then their names decide.
 use Rattle.std.proofs.Common.{sym, arith}
 use Rattle.table.specs.Table.{table_memory, Holds, max_entries}
-use Rattle.field.proofs.EqualLaws.{is_false}
+use Rattle.std.proofs.lemmas.Bool.{false_from_ne_true}
 use Rattle.soundness.specs.Sound.{sound_table}
 use Rattle.soundness.proofs.SoundLaws.{sound_facts, entries_named, fits_sound}
 use Rattle.soundness.proofs.table_is_sound.Goals as goal
@@ -9,17 +9,17 @@ use Rattle.soundness.proofs.table_is_sound.Goals as goal
 pub returns-then-table-lt-HEADS_SIZE : goal.returns-then-table-lt-HEADS_SIZE
 returns-then-table-lt-HEADS_SIZE c =
     let t = c.args.table in
-    sym (is_false (sound_table max_entries (table_memory t.heads.now t.bytes.now t.count)) (λ h. absurd (omega (arith, (sound_facts max_entries _ h).holds.heads_hold))))
+    sym (false_from_ne_true (sound_table max_entries (table_memory t.heads.now t.bytes.now t.count)) (λ h. absurd (omega (arith, (sound_facts max_entries _ h).holds.heads_hold))))
 
 pub returns-then-table-lt-BYTES_SIZE : goal.returns-then-table-lt-BYTES_SIZE
 returns-then-table-lt-BYTES_SIZE c =
     let t = c.args.table in
-    sym (is_false (sound_table max_entries (table_memory t.heads.now t.bytes.now t.count)) (λ h. absurd (omega (arith, (sound_facts max_entries _ h).holds.bytes_hold))))
+    sym (false_from_ne_true (sound_table max_entries (table_memory t.heads.now t.bytes.now t.count)) (λ h. absurd (omega (arith, (sound_facts max_entries _ h).holds.bytes_hold))))
 
 pub returns-then-len-gt-MAX_ENTRIES : goal.returns-then-len-gt-MAX_ENTRIES
 returns-then-len-gt-MAX_ENTRIES c =
     let t = c.args.table in
-    sym (is_false (sound_table max_entries (table_memory t.heads.now t.bytes.now t.count)) (λ h. absurd (omega (arith, c.len.ensures, (sound_facts max_entries _ h).count_fits))))
+    sym (false_from_ne_true (sound_table max_entries (table_memory t.heads.now t.bytes.now t.count)) (λ h. absurd (omega (arith, c.len.ensures, (sound_facts max_entries _ h).count_fits))))
 
 pub returns-then-not-entries_are_sound : goal.returns-then-not-entries_are_sound
 returns-then-not-entries_are_sound c =
