@@ -53,6 +53,7 @@ fn load(heads: &[Head]) -> Option<[u16; table::HEADS_SIZE]>
         return None;
     }
     let mut flat = [0u16; table::HEADS_SIZE];
+    // Stays: heads by their places, since `chunks_exact_mut` is far slower here.
     for i in 0..table::MAX_ENTRIES {
         put_head(&mut flat, i, heads[i]);
     }

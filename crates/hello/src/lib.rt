@@ -45,6 +45,7 @@ pub fn write_hello(table: Table, out: &mut [u8]) -> usize
     ensures output { out.new ≡ overwrite_at out.old 0 (hello_answer 0 (entries_of (memory_of table.entry))) }
 {
     let mut end = 0;
+    // Stays: the end is moved by hand, since messages have sizes of their own.
     for id in 0..table.count {
         end += write_entry(table, id, &mut out[end..]);
     }

@@ -20,6 +20,7 @@ fn bit_of(mark: u8, c: usize, left_out: Option<usize>) -> u16
 }
 
 // All greeted connections but one, or all.
+// Stays: a slice of 16 or more, since `&[u8; 16]` would be a narrower type.
 pub fn greeted_but(marks: &[u8], left_out: Option<usize>) -> u16
     requires { connections ≤ length marks.now }
     ensures { result ≡ recipient_set (greeted_but left_out) marks.now }

@@ -21,6 +21,7 @@ use soundness::SoundTable;
 use table::Table;
 
 // Stores so many zeros from a place on.
+// Stays: a loop, since `fill` is slower where the number of bytes varies.
 #[tactic(auto, using(crate::proofs::SaveLaws::zero_next))]
 fn clear(out: &mut [u8], at: usize, n: usize)
     requires { at + n ≤ length out.old }

@@ -32,7 +32,8 @@ fn read_opening(s: &[u8], kind: RecordKind, most: usize) -> Result<usize, Fault>
     Ok(saved::OPENING_SIZE)
 }
 
-// Whether all bytes are zero: one pass with no way out, which the compiler does many bytes at a time.
+// Whether all bytes are zero.
+// Stays: no `all`, since one pass with no way out is what the compiler does many bytes at a time, and is faster.
 #[tactic(auto, using(crate::proofs::ZeroLaws::zero_step, crate::proofs::ZeroLaws::zero_end))]
 fn is_zero(s: &[u8]) -> bool
     ensures { result ≡ all_zero s.now }
