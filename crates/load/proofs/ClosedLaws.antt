@@ -5,7 +5,8 @@ use mathlib.Core.Bool.{false≢true}
 use lib.Dec.{eqb}
 use lib.Pointwise.{pointwise}
 use Rattle.field.specs.Octets.{bytes_equal}
-use Rattle.field.proofs.EqualLaws.{is_false, pointwise_bytes, bytes_equal_true, equal_bytes}
+use Rattle.std.proofs.lemmas.Bool.{false_from_ne_true}
+use Rattle.field.proofs.EqualLaws.{pointwise_bytes, bytes_equal_true, equal_bytes}
 use borrow.Author.Tests.{eqb-true, eq-eqb}
 use Rattle.soundness.proofs.BelowLaws.{all_at, at_all}
 use Rattle.soundness.specs.Sound.{connections, closed}
@@ -39,7 +40,7 @@ closed_same marks h = pointwise_bytes (take connections marks) zeros ∙ go (byt
     go true q =
         sym (closed_all marks (λ k l. sym (mark k l) ∙ ap (λ (xs : List ℕ). get_or xs k 0) (bytes_equal_true (take connections marks) zeros q) ∙ zero k l))
     go false q =
-        sym (is_false (all_closed marks) (λ all.
+        sym (false_from_ne_true (all_closed marks) (λ all.
         let same : take connections marks ≡ zeros =
         ext_get_or 0 (take connections marks) zeros (size ∙ sym (length-replicate connections closed)) (λ k l.
         let in_marks : k < connections = omega (arith, size) in

@@ -1,7 +1,7 @@
 -- Laws of the records of a saved form, by their places.
 use Rattle.std.specs.Prelude.{Err, Ok}
 use mathlib.Core.Path.{◌≡◌, refl, sym, ap, ◌∙◌}
-use mathlib.Core.Bool.{Bool, true, false, not, false≢true}
+use mathlib.Core.Bool.{true, false, not}
 use mathlib.Core.List.{List, [], ◌∷◌, ◌++◌}
 use Prim.Native.Nat.{ℕ, zero, suc, ◌+◌, ◌-◌, ◌^◌, ◌≤◌, ◌<◌}
 use native.Mathlib.Nat.{add-zero}
@@ -11,6 +11,7 @@ use lib.ListN.{length, take, drop, length-take, length-drop}
 use lib.Seq.{drop-drop}
 use borrow.Author.Count.{below_more}
 use borrow.Author.Tests.{le-leb, lt-leb}
+use Rattle.std.proofs.lemmas.Bool.{not-false, not-true}
 use Rattle.field.specs.Answer.{too_long, name_taken}
 use Rattle.field.specs.Choice.{pick}
 use Rattle.field.specs.Field.{fault_at, fault_of, moved_by, and_then, Parsed}
@@ -61,14 +62,6 @@ place_in_record s = go (parse_record s) (record_is s)
 abbrev size_of : Parsed → ℕ
 size_of (Err fault) = 0
 size_of (Ok n) = n + 1
-
-held : (t : Bool) → false ≡ not t → t ≡ true
-held true h = refl
-held false h = absurd (false≢true h)
-
-unheld : (t : Bool) → true ≡ not t → t ≡ false
-unheld true h = absurd (false≢true (sym h))
-unheld false h = refl
 
 -- one record more
 module _ (es : List Entry) (p : ℕ) (s : List ℕ) where
@@ -138,12 +131,12 @@ module _ (s : List ℕ) (count i : ℕ) (below : i < count) (left : Left s count
         → Err (fault_at name_taken (saved_size i)) ≡ outcome (read_records count [] count_record_size (drop count_record_size s))
     unfolding saved_entry
     turn_held h =
-        records_held (tabulate i (saved_entry s)) (saved_size i) (drop (saved_size i) s) (count - i) n (omega (arith, below)) parsed (held _ h) ∙ ap outcome left
+        records_held (tabulate i (saved_entry s)) (saved_size i) (drop (saved_size i) s) (count - i) n (omega (arith, below)) parsed (not-false _ (sym h)) ∙ ap outcome left
 
     pub turn_next : true ≡ not (name_held (saved_entry s i).name (tabulate i (saved_entry s))) → Left s count (i + 1)
     unfolding tabulate saved_entry
     turn_next h =
-        let next = records_next (tabulate i (saved_entry s)) (saved_size i) (drop (saved_size i) s) (count - i) n (omega (arith, below)) parsed (unheld _ h) in
+        let next = records_next (tabulate i (saved_entry s)) (saved_size i) (drop (saved_size i) s) (count - i) n (omega (arith, below)) parsed (not-true _ (sym h)) in
         let size : n ≡ entry_record_size = (taken_storable (drop (saved_size i) s) n parsed).1 in
         let place : saved_size i + n ≡ saved_size (i + 1) = omega (arith, size) in
         let k : count - i - 1 ≡ count - (i + 1) = omega (arith, below) in

@@ -133,6 +133,7 @@ fn store_records(heads: &mut [u16], bytes: &mut [u8], records: Records, count: u
 }
 
 // Whether all 16 connections are closed.
+// Stays: a slice of 16 or more, since `&[u8; 16]` would be a narrower type than what C lends.
 #[tactic(auto, using(crate::proofs::ClosedLaws::closed_same))]
 fn all_closed(marks: &[u8]) -> bool
     requires { connections ≤ length marks.now }
