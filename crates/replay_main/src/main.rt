@@ -91,8 +91,7 @@ fn put_replay(
     };
     let mut slots = [Slot::empty(); RECORDED_CONNECTIONS];
     let number = run_input(input, &mut memory, &mut slots)?;
-    let table = memory.table();
-    Ok(table_text::put_table(table.heads, table.bytes, table.count, number, text))
+    Ok(table_text::put_table(memory.table(), number, text))
 }
 
 fn main(rt: HostRuntime) -> io::Result<()> {

@@ -18,7 +18,7 @@ run_input-requires g c =
     started m _ [] c.fresh.result.number number_is c.fresh.ensures.memory is_done
 
 pub put_table-requires : goal.put_table-requires
-put_table-requires g c = sound_readable max_entries (memory_of c.table-table.result) (rw c.table-table.ensures c.in_ok-number.ensures.sound.table)
+put_table-requires g c = sound_readable max_entries (memory_of c.table.result) (rw c.table.ensures c.in_ok-number.ensures.sound.table)
 
 pub returns-clause-shows : goal.returns-clause-shows
 returns-clause-shows g c =
@@ -26,4 +26,4 @@ returns-clause-shows g c =
     let number_is = ap (λ (a : Answer). a.number) c.fresh.ensures.answer in
     let is_done = number_is ∙ start_done m c.requires.table.0 c.requires.table.1 c.requires.marks in
     shows m _ c.fresh.result.number number_is c.fresh.ensures.memory is_done c.empty-slots.result c.empty-slots.ensures c.in_ok-number.number
-    (server_of c.run_input.new.memory) c.run_input.new.slots c.args.text.now _ c.put_table.result c.in_ok-number.ensures.runs (rw c.table-table.ensures at c.put_table.ensures)
+    (server_of c.run_input.new.memory) c.run_input.new.slots c.args.text.now _ c.put_table.result c.in_ok-number.ensures.runs (rw c.table.ensures at c.put_table.ensures)
