@@ -1,7 +1,7 @@
 -- Decisions, by what was read and tested before them.
-use Rattle.std.proofs.Common.{◌≡◌, ◌≢◌, refl, sym, ◌∙◌, ℕ, ◌≤◌, ◌<◌, Bool, true, false, not, List, length, get_or, Result, Ok, Err, Option, Some, None, arith, le-leb}
+use Rattle.std.proofs.Common.{◌≡◌, ◌≢◌, refl, sym, ◌∙◌, ℕ, ◌≤◌, ◌<◌, Bool, true, false, List, length, get_or, Result, Ok, Err, Option, Some, None, arith, le-leb}
 use Rattle.std.specs.Option.{is_some}
-use borrow.Author.Tests.{lt-leb, lt-ltb, le-ltb, eq-eqb, ne_eqb}
+use borrow.Author.Tests.{lt-leb, lt-ltb, le-ltb, eq-eqb, ne_eqb, not-true, not-false}
 use Rattle.field.specs.Answer.{connection_too_high, wrong_state, unknown_id, name_taken, table_full}
 use Rattle.field.specs.Choice.{pick, demand}
 use Rattle.field.specs.Field.{fault_at, number_at}
@@ -152,14 +152,6 @@ not_greeted false next fault told h = cc
 
 -- ---- opening and leaving
 
-not_false : (b : Bool) → not b ≡ false → b ≡ true
-not_false true h = refl
-not_false false h = absurd cc
-
-not_true : (b : Bool) → not b ≡ true → b ≡ false
-not_true true h = absurd cc
-not_true false h = refl
-
 module _ (limit : ℕ) (es : List Entry) (marks : List ℕ) (c : ℕ) where
   pub mark_too_high : (change : MarkChange) → connections ≤ c → DecidesMark c change (Err (fault_at connection_too_high 0)) (judge limit es marks (mark_call change c))
   unfolding judge pick
@@ -170,13 +162,13 @@ module _ (limit : ℕ) (es : List Entry) (marks : List ℕ) (c : ℕ) where
       → DecidesMark c change (Err (fault_at wrong_state 0)) (judge limit es marks (mark_call change c))
   unfolding judge pick
   mark_wrong_state K.Open h a = rw (lt-ltb c connections h, a) (record { verdict = refl; markable = tt })
-  mark_wrong_state K.Close h a = rw (lt-ltb c connections h, not_false _ a) (record { verdict = refl; markable = tt })
+  mark_wrong_state K.Close h a = rw (lt-ltb c connections h, not-false _ a) (record { verdict = refl; markable = tt })
 
   pub mark_changed : (change : MarkChange) → c < connections → allows change (get_or marks c 0) ≡ true
       → DecidesMark c change (Ok tt) (judge limit es marks (mark_call change c))
   unfolding judge pick
   mark_changed K.Open h a = rw (lt-ltb c connections h, a) (record { verdict = refl; markable = h })
-  mark_changed K.Close h a = rw (lt-ltb c connections h, not_true _ a) (record { verdict = refl; markable = h })
+  mark_changed K.Close h a = rw (lt-ltb c connections h, not-true _ a) (record { verdict = refl; markable = h })
 
 -- ---- a local create
 
