@@ -32,6 +32,7 @@ pub struct Copied {
 }
 
 // The answer on memory that is unsound or too small: a number alone. All other answers are made of it.
+// Stays: no plainer. `as u8`, since From is not for a const.
 pub const ON_UNSOUND: Copied = Copied {
     number: Refusal::Unsound as u8,
     revision: 0,
@@ -149,8 +150,8 @@ fn judge_copy(table: SoundTable, m: &[u8]) -> Result<CopyDecision, Fault>
 // ---- what a verdict does
 
 // A decision on a message m: a new entry has the next ID.
-// Stays: the copy's memory is three parameters here and in copy_receive alone, and there C lends each by itself.
-#[tactic(auto, using(crate::proofs::DecideLaws::next_there, crate::proofs::DecideLaws::held_there), unfolding(protocol::specs::Copy::execute_copy, table::specs::Table::store_entry, table::specs::Table::store_value))]
+// Stays: C interface. The copy's memory is three parameters, which C lends each by itself; a struct of them is taken apart again.
+#[tactic(auto, using(crate::proofs::DecideLaws::next_there, crate::proofs::DecideLaws::held_there), unfolding(protocol::specs::Copy::execute_copy, table::specs::Table::store_value))]
 fn perform(
     heads: &mut [u16],
     bytes: &mut [u8],
@@ -172,8 +173,7 @@ fn perform(
                 number: new.number,
                 value: new.value(m),
             };
-            table::store_entry(heads, bytes, usize::from(*count), entry);
-            *count += 1;
+            table::add_entry(heads, bytes, count, entry);
             stored(new.size())
         }
         CopyDecision::StoreUpdate(update) => {

@@ -38,6 +38,7 @@ pub enum Ended {
 pub const MAX_MESSAGES: usize = 64;
 
 // The answer on memory that is unsound or too small: a number alone. All other answers are made of it.
+// Stays: no plainer. `as u8`, since From is not for a const.
 pub const ON_UNSOUND: Delivered = Delivered {
     number: Refusal::Unsound as u8,
     ended: Ended::AtRefusal as u8,
@@ -69,6 +70,7 @@ fn deliver_messages(memory: &mut Memory, c: usize, input: &[u8], out: &mut [u8])
     ensures done { delivered result (server_of memory.new) out.new
         ≡ deliver_at_most max_messages max_entries (server_of memory.old) c input.now out.old }
 {
+    // Stays: no plainer. `taken` and `written` are moved by messages of their own size.
     let mut taken = 0;
     let mut written = 0;
     for messages in 0..MAX_MESSAGES {

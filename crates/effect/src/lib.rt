@@ -51,6 +51,7 @@ pub fn change_mark(marks: &mut [u8], c: usize, change: MarkChange) -> Result<(),
 
 // ---- a client's message
 
+// Stays: no plainer. server::decide is alike: a crate below both would have to know SoundMemory for one line.
 fn decide(memory: &Memory, c: usize, m: &[u8]) -> Result<Decision, Fault>
     requires { SoundMemory max_entries (server_of memory.now) }
     ensures { Decides (server_of memory.now).table.count c m.now result
@@ -125,9 +126,10 @@ pub fn receive(memory: &mut Memory, c: usize, m: &[u8]) -> Result<Taken, Refusal
     }
 }
 
-// ---- local calls. Stays: no mark is looked at, so heads, bytes and count are lent, and no Memory
+// ---- local calls
 
 // Local create.
+// Stays: no plainer, here and below. No mark is looked at, so the table's parts are lent, and no Memory; an entry's parts are as C lends them.
 pub fn create(
     heads: &mut [u16],
     bytes: &mut [u8],

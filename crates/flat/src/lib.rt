@@ -29,6 +29,7 @@ pub struct ScalarAnswer {
 }
 
 // The answer on memory that is unsound or too small: a number alone. All other answers are made of it.
+// Stays: no plainer. `as u8`, since From is not for a const.
 pub const ON_UNSOUND: ScalarAnswer = ScalarAnswer {
     number: Refusal::Unsound as u8,
     found: 0,
@@ -87,7 +88,7 @@ pub fn read(table: Table, id: u16) -> ScalarAnswer
 }
 
 // One message of a client.
-// Stays: memory lent in parts. The closure of a call on heads cannot make a struct of the references that it holds.
+// Stays: tried in the closure, and it is refused: the borrow check does not cover a struct of lent slices there.
 pub fn receive(
     heads: &mut [u16],
     bytes: &mut [u8],

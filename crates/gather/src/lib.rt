@@ -42,6 +42,7 @@ impl Slot {
 }
 
 // The message that stands first in the bytes of a connection: of a client, or of the plant's own code.
+// Stays: what may not change (the records of a line record). Connection 16 stands for the plant's own code there.
 fn message(memory: &mut Memory, c: usize, m: &[u8]) -> Result<Taken, Refusal>
     requires { SoundMemory max_entries (server_of memory.old) }
     ensures same { SameMemory memory.old memory.new }
@@ -81,7 +82,7 @@ fn settle(memory: &mut Memory, c: usize, held: &[u8]) -> usize
     ensures within { result ≤ length held.now }
 {
     let mut at = 0;
-    // Stays: messages have sizes of their own, and what is cut is held.
+    // Stays: no plainer. Messages have sizes of their own, and what is cut is held.
     while at < held.len() {
         match message(memory, c, &held[at..]) {
             Ok(taken) => {

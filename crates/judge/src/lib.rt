@@ -124,6 +124,7 @@ fn judge_message(table: SoundTable, mark: u8, m: &[u8]) -> Result<Decision, Faul
 }
 
 // One message of a client.
+// Stays: C interface. So many marks are asked for: `&[u8; 16]` would be narrower than what C lends.
 pub fn judge_client_message(
     table: SoundTable,
     marks: &[u8],
@@ -193,6 +194,7 @@ pub fn judge_mark(marks: &[u8], c: usize, change: MarkChange) -> Result<(), Faul
 // ---- local calls
 
 // Local create.
+// Stays: C interface. Name, type and value are three parameters, as C lends them; an entry is made of them where it is stored.
 pub fn judge_create(
     table: SoundTable,
     name: &[u8],

@@ -51,6 +51,7 @@ fn put_messages(memory: &mut Memory, out: &mut [u8], stream: &[u8], text: &mut T
 {
     let mut left = stream;
     let mut offset = 0;
+    // Stays: no plainer. Messages have sizes of their own.
     while !left.is_empty() {
         let a = server::receive(memory, 0, left, out);
         put_line(text, offset, &a);

@@ -20,6 +20,7 @@ use protocol::Memory;
 // ---- hellos
 
 // A hello for 2.0: all entries to the sender, who is then greeted.
+// Stays: C interface. So many marks are asked for, here and below: `&mut [u8; 16]` would be narrower than what C lends.
 fn greet(memory: &mut Memory, c: usize, out: &mut [u8]) -> Answer
     requires sound { (c < connections) × (sound_table max_entries (server_of memory.old).table ≡ true) }
     requires marks { connections ≤ length memory.old.marks.now }

@@ -32,7 +32,8 @@ fn plant_refusal(refusal: Refusal) -> Refusal
     }
 }
 
-// An assignment is a local create. Stays, here and below: no mark is looked at, so heads, bytes and count are lent, and no Memory.
+// An assignment is a local create.
+// Stays: no plainer, here and below. No mark is looked at, so heads, bytes and count are lent, and no Memory.
 fn create(heads: &mut [u16], bytes: &mut [u8], count: &mut u16, m: &[u8]) -> Result<Taken, Refusal>
     requires { sound_table max_entries (lent heads.old bytes.old count.old) ≡ true }
     ensures { (marks : List ℕ) → sound_marks marks ≡ true →

@@ -9,6 +9,7 @@ ghost use Rattle.protocol.specs.Memory.{server_of};
 use table::Table;
 
 // The server's memory: its table, and the connections' marks. What is lent may be of any length.
+// Stays: C interface. `SoundMemory` is asked for and `SameMemory` promised call by call: an invariant would refuse memory that C may lend.
 #[derive(Drop)]
 pub struct Memory<'a> {
     pub heads: &'a mut [u16],

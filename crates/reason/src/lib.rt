@@ -7,7 +7,7 @@ use field::Fault;
 #[derive(Drop)]
 pub enum Reason {
     // The number, and the place of the first byte of the field.
-    // Stays: no Result, since a refusal is one of the reasons that the theorems range over.
+    // Stays: what may not change (OneReason). No Result, since a refusal is one of the reasons that it ranges over.
     Refused(Fault),
     KeepAlive,
     // The ID of the entry that has the name.

@@ -171,7 +171,7 @@ fn run(memory: &mut Memory, slots: &mut [Slot; RECORDED_CONNECTIONS], recorded: 
 {
     let mut at = 0;
     let mut records = 0;
-    // Stays: records have sizes of their own.
+    // Stays: no plainer. Records have sizes of their own.
     while at < recorded.len() {
         match advance(memory, slots, &recorded[at..]) {
             Ok(size) => {

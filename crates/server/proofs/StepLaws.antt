@@ -1,5 +1,5 @@
 -- What a call comes to, by its test of soundness and its verdict.
-use Rattle.std.proofs.Common.{◌≡◌, refl, ◌∙◌, ℕ, ◌+◌, ◌≤◌, ◌<◌, true, false, ◌&&◌, List, [], Result, Ok, Err, None, Some, arith}
+use Rattle.std.proofs.Common.{◌≡◌, refl, ◌∙◌, ℕ, ◌≤◌, ◌<◌, true, false, ◌&&◌, List, [], Result, Ok, Err, None, Some}
 use borrow.Author.Tests.{lt-ltb, le-ltb}
 use Rattle.field.specs.Answer.{unsound}
 use Rattle.field.specs.Choice.{pick}
@@ -8,10 +8,8 @@ use Rattle.field.specs.declared.Refusal.{Refusal}
 use Rattle.field.specs.declared.Refusal.TheVariants.{UnknownId, Unsound}
 use Rattle.answer.specs.Answers.{bare_answer, ignored_answer, refused_answer}
 use Rattle.message.specs.Layout.{Entry}
-use Rattle.table.specs.Table.{TableMemory, Holds, entry_of, entries_of, max_entries}
-use Rattle.table.proofs.SearchLaws.{holds_less}
+use Rattle.table.specs.Table.{TableMemory, entry_of, entries_of, max_entries}
 use Rattle.soundness.specs.Sound.{sound_table, sound_marks}
-use Rattle.soundness.proofs.ReadableLaws.{sound_count, sound_holds}
 use Rattle.scalar.specs.Scalar.{scalar_of}
 use Rattle.protocol.specs.Judge.{Call, Verdict, judge, client_message, local_create, local_write, read_entry, store_new, store_update, new_entry}
 use Rattle.recipients.specs.Recipients.{all_greeted}
@@ -106,9 +104,6 @@ module _ (table : TableMemory) (marks out : List ℕ) (id : ℕ) (value : List �
       → execute_with_place (beside_marks table marks) out (store_update id number value 0 all_greeted)
       ≡ step_with_place max_entries (beside_marks table marks) (lent_call (local_write id value) out)
   stored_write number h decides = judged_step (beside_marks table marks) out (local_write id value) _ h decides.verdict
-
-pub entry_there : (table : TableMemory) (id : ℕ) → sound_table max_entries table ≡ true → id < table.count → Holds (id + 1) table.heads table.bytes
-entry_there table id sound held = holds_less (id + 1) (omega (arith, held, sound_count max_entries table sound)) (sound_holds max_entries table sound)
 
 -- ---- reading
 

@@ -54,6 +54,7 @@ pub fn change_mark(table: Table, marks: &mut [u8], c: usize, change: MarkChange)
 // ---- messages, and calls of the plant's own code
 
 // The verdict on a message, on memory that is known to be sound.
+// Stays: no plainer. effect::decide is alike: a crate below both would have to know SoundMemory for one line.
 #[tactic(auto, using(soundness::proofs::SoundLaws::marks_facts))]
 fn decide(memory: &Memory, c: usize, m: &[u8]) -> Result<Decision, Fault>
     requires { SoundMemory max_entries (server_of memory.now) }
@@ -99,6 +100,7 @@ pub fn receive(memory: &mut Memory, c: usize, m: &[u8], out: &mut [u8]) -> Answe
 }
 
 // Local create: an entry of the plant's own code.
+// Stays: C interface, here and below. Heads, bytes and count, and name, type and value, are lent each by itself.
 #[tactic(auto, using(crate::proofs::StepLaws::unsound_create, crate::proofs::StepLaws::refused_create, crate::proofs::StepLaws::stored_create, soundness::proofs::ReadableLaws::sixteen_marks))]
 pub fn create(
     heads: &mut [u16],
@@ -131,7 +133,7 @@ pub fn create(
 }
 
 // Local write: another value of an entry.
-#[tactic(auto, using(crate::proofs::StepLaws::unsound_write, crate::proofs::StepLaws::refused_write, crate::proofs::StepLaws::same_write, crate::proofs::StepLaws::stored_write, soundness::proofs::ReadableLaws::sixteen_marks, crate::proofs::StepLaws::entry_there))]
+#[tactic(auto, using(crate::proofs::StepLaws::unsound_write, crate::proofs::StepLaws::refused_write, crate::proofs::StepLaws::same_write, crate::proofs::StepLaws::stored_write, soundness::proofs::ReadableLaws::sixteen_marks, store::proofs::EntryLaws::entry_there))]
 pub fn write(
     heads: &mut [u16],
     bytes: &mut [u8],

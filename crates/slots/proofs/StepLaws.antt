@@ -1,5 +1,6 @@
 -- Laws of one record: the state after it, and memory that stays sound.
 use Rattle.std.proofs.Common.{◌≡◌, refl, sym, ap, Bool, true, false, ◌||◌, List, [], ℕ, ◌≤◌, ◌<◌, arith, set, get_or, map, length, Result, Ok, Err}
+use Rattle.std.proofs.lemmas.Bool.{or_parts}
 use Rattle.std.proofs.lemmas.List.{map-set, get_or-map}
 use Rattle.std.specs.Result.{is_ok}
 use native.Mathlib.Decide.{dec_lt}
@@ -46,12 +47,8 @@ left_below mem c sound e = elim (dec_lt c connections) [
       absurd (omega (arith, e, ap (λ (r : CallResult). r.number) (too_high_refused max_entries mem sound c high (without_output (leave c)) Concerns.leaving))))
 ]
 
-first_false : (b d : Bool) → (b || d) ≡ false → b ≡ false
-first_false true d h = absurd cc
-first_false false d h = refl
-
 not_done : (r : Refusal) → eqb (refusal_number r) done ≡ false
-not_done r = first_false _ _ (refusal_stops r)
+not_done r = (or_parts _ _ (refusal_stops r)).0
 
 module _ (mem after : ServerMemory) (c : ℕ) (slots : List Slot) where
   left_state : (r : Result (Unit {0}) Refusal) → done_effect r after ≡ effect_of (call_step max_entries mem (without_output (leave c)))

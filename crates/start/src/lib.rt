@@ -23,6 +23,7 @@ fn large_enough(heads: &[u16], bytes: &[u8]) -> bool
     heads.len() >= table::HEADS_SIZE && bytes.len() >= table::BYTES_SIZE
 }
 
+// Stays: C interface. So many marks are asked for: `&mut [u8; 16]` would be narrower than what C lends.
 #[tactic(auto, unfolding(field::specs::Octets::overwrite_at))]
 fn close_all(marks: &mut [u8])
     requires { connections ≤ length marks.old }

@@ -23,6 +23,7 @@ use sequence::SequenceNumber;
 // ---- marks
 
 // Connection c opens or leaves, if it may: its mark changes, and nothing is sent. No entry is looked at.
+// Stays: C interface. So many marks are asked for: `&mut [u8; 16]` would be narrower than what C lends.
 pub fn change_mark(marks: &mut [u8], c: usize, change: MarkChange) -> Result<(), Fault>
     requires { connections ≤ length marks.old }
     ensures { (limit : ℕ) (es : List Entry) (table : TableMemory) (out : List ℕ) →
@@ -37,6 +38,7 @@ pub fn change_mark(marks: &mut [u8], c: usize, change: MarkChange) -> Result<(),
 // ---- entries
 
 // A new entry, which has the first number.
+// Stays: C interface. Name, type and value are three parameters, as C lends them; here the entry is made of them.
 pub fn new_entry<'a>(name: &'a [u8], type_code: u8, value: &'a [u8]) -> LentEntry<'a>
     ensures entry { entry_lent result ≡ new_entry name.now type_code value.now }
     ensures type_fits { result.type_code ≤ 255 }
@@ -50,6 +52,7 @@ pub fn new_entry<'a>(name: &'a [u8], type_code: u8, value: &'a [u8]) -> LentEntr
 }
 
 // Stores an entry with the next ID, and writes its assignment to those of a set.
+// Stays: C interface. Heads, bytes and count are lent each by itself: a struct of them is taken apart again, as by table::add_entry.
 pub fn store_new(
     heads: &mut [u16],
     bytes: &mut [u8],

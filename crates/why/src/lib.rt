@@ -41,6 +41,7 @@ fn why_ignored(table: SoundTable, m: &[u8]) -> Reason
     requires { ReadAgain table.table.count m.now }
     ensures { result ≡ ignored_reason (entries_of (memory_of table.entry.table)) (get_or m.now 0 0) m.now }
 {
+    // Stays: no plainer. Kind bytes are compared: the verdict read the kind already, and three are left.
     let kind = m[0];
     if kind == u8::from(Kind::KeepAlive) {
         return Reason::KeepAlive;
@@ -118,6 +119,7 @@ pub struct ReasonAnswer {
 }
 
 // The answer on memory that is unsound or too small.
+// Stays: no plainer. `as u8`, since From is not for a const.
 pub const ON_UNSOUND: ReasonAnswer = ReasonAnswer {
     reason: ReasonNumber::Refused as u8,
     number: Refusal::Unsound as u8,
@@ -155,6 +157,7 @@ impl From<Reason> for ReasonAnswer {
             Reason::Done => (ReasonNumber::OtherDone, DONE, 0, 0, 0),
         };
         ReasonAnswer {
+            // Stays: no plainer. A From would need a table of the numbers in specs/ beside that of the answers.
             reason: told as u8,
             number,
             id,

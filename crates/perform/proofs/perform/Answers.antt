@@ -1,8 +1,8 @@
 use Rattle.std.proofs.Common.{rules, Ok}
 use Rattle.judge.specs.Decision.{Performable}
 use Rattle.judge.specs.declared.Decision.TheVariants as D
-use Rattle.perform.proofs.PerformLaws.{entry_there}
 use Rattle.protocol.specs.Memory.{server_of}
+use Rattle.store.proofs.EntryLaws.{entry_there}
 use Rattle.perform.proofs.perform.Goals as goal
 
 pub store_update-requires-clause-memory : goal.store_update-requires-clause-memory

@@ -5,7 +5,6 @@ use Rattle.field.specs.Choice.{pick}
 use Rattle.message.specs.Layout.{revision_bytes, unsupported_kind}
 use Rattle.message.proofs.ReadBack.{length_revision}
 use Rattle.protocol.specs.Judge.{protocol_revision}
-use Rattle.protocol.specs.Lent.{beside_marks}
 use Rattle.protocol.specs.Step.{execute}
 use Rattle.perform.proofs.turn_away.Goals as goal
 

@@ -3,7 +3,8 @@ use Rattle.std.proofs.Common.{◌≡◌, rules, true, ◌∙◌}
 use Rattle.table.specs.Table.{lent, max_entries}
 use Rattle.soundness.specs.Sound.{sound_table}
 use Rattle.recipients.specs.Recipients.{all_greeted}
-use Rattle.server.proofs.StepLaws.{entry_there, stored_write}
+use Rattle.store.proofs.EntryLaws.{entry_there}
+use Rattle.server.proofs.StepLaws.{stored_write}
 use Rattle.server.proofs.write.Goals as goal
 
 pub store_update-requires-clause-memory : goal.store_update-requires-clause-memory
