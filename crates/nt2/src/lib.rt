@@ -1,5 +1,5 @@
 // The calls as C has them. Of those on a table, heads become numbers, the call is made on them, and they become heads again.
-// Stays: C calls each function nt2_ .., and lends each part of the memory by itself; kinds, types and IDs are the numbers that it gives.
+// Stays: C interface. nt2_c exports each with C's signature, which lends each part of the memory by itself; kinds and IDs are its numbers.
 #![tactic(auto)]
 
 ghost use Rattle.std.specs.Prelude.{◌≡◌, []};

@@ -14,7 +14,7 @@ use heads::Head;
 use protocol::Memory;
 
 // A delivery.
-// Stays: memory lent in parts. The closure of a call on heads cannot make a struct of the references that it holds.
+// Stays: tried in the closure, and it is refused: the borrow check does not cover a struct of lent slices there.
 fn deliver_on(
     heads: &mut [u16],
     bytes: &mut [u8],
@@ -37,7 +37,7 @@ fn deliver_on(
     deliver::deliver(&mut memory, connection, input, out)
 }
 
-// Stays: C calls it, and lends each part of the memory by itself.
+// Stays: C interface. nt2_c exports it with C's signature, which lends each part of the memory by itself.
 pub fn nt2_deliver(
     heads: &mut [Head],
     bytes: &mut [u8],

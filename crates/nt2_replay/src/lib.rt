@@ -8,7 +8,7 @@ ghost use Rattle.nt2_replay.specs.Lent.{heads_replayed, heads_replay};
 use heads::Head;
 use replay::Replayed;
 
-// Stays: C calls it, and lends each part of the memory by itself.
+// Stays: C interface. nt2_c exports it with C's signature, which lends each part of the memory by itself.
 pub fn nt2_replay(
     heads: &mut [Head],
     bytes: &mut [u8],

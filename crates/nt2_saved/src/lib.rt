@@ -10,7 +10,7 @@ use answer::Answer;
 use heads::Head;
 use table::Table;
 
-// Stays: C calls nt2_save and nt2_load, and lends each part of the memory by itself.
+// Stays: C interface. nt2_c exports nt2_save and nt2_load with C's signatures, which lend each part of the memory by itself.
 #[tactic(auto, using(crate::proofs::CallLaws::few_saved))]
 pub fn nt2_save(heads: &[Head], bytes: &[u8], count: &u16, out: &mut [u8]) -> Answer
     ensures { save_result result out.new

@@ -9,7 +9,7 @@ use heads::Head;
 use table::Table;
 use why::ReasonAnswer;
 
-// Stays: C calls it, and lends each part of the memory by itself.
+// Stays: C interface. nt2_c exports it with C's signature, which lends each part of the memory by itself.
 #[tactic(auto, using(crate::proofs::FewLaws::few_reason))]
 pub fn nt2_why(
     heads: &[Head],

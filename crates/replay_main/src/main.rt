@@ -41,7 +41,8 @@ fn read_piece(input: &mut impl Read, piece: &mut [u8; PIECE_SIZE]) -> io::Result
 }
 
 // Does record after record, until the input ends or one is refused, and returns its number. Every loop has to end: this one would
-// after 2^64 records. The only error is that of a read: the records before it are done. Stays: the text ends with the number.
+// after 2^64 records. The only error is that of a read: the records before it are done.
+// Stays: no plainer. A refusal is a number in Ok, since the text ends with it, and the error is a read's.
 fn run_input(
     input: &mut impl Read,
     memory: &mut Memory,
@@ -69,6 +70,7 @@ fn run_input(
 }
 
 // The fresh start, the records, and the text. The only error is that of a read, and leaves the text as it was.
+// Stays: no plainer. The parts are lent, and no Memory, since the fresh start only measures heads and bytes.
 fn put_replay(
     input: &mut impl Read,
     heads: &mut [u16],

@@ -7,7 +7,7 @@ use std::io;
 const WHOLE: u64 = 104;
 
 // A line's word by its first letter, its connection or ID, the room, and the bytes that the call takes.
-// Stays: a letter, since an enum would only name each call once more.
+// Stays: no plainer. A letter, since an enum would only name each call once more.
 #[derive(Clone, Copy)]
 pub struct Request<'a> {
     pub letter: u8,

@@ -6,6 +6,7 @@ use std::io;
 pub fn copied(rt: &impl Print, s: &[u8]) -> io::Result<Memory> {
     let mut copy = Memory::fresh_copy();
     let mut rest = s;
+    // Stays: no plainer. Messages have sizes of their own.
     while !rest.is_empty() {
         let taken = copy.copy_receive(rest);
         if taken == 0 {

@@ -10,6 +10,7 @@ use std::io;
 
 // What stands before the bytes, by the word that the line begins with: allowed: the one ID; cut, message: the type of
 // updates; number, passed, text: nothing; value: its type; write: kind, type, room (2), the name's length and the name.
+// Stays: no plainer. A letter, since an enum would only name each case once more.
 fn case(rt: &impl Print, first: u8, s: &[u8]) -> io::Result<()> {
     match first {
         b'a' => cases::allowed(rt, s),
