@@ -13,6 +13,14 @@ use Rattle.line_record.proofs.HeldLaws.{gather_short}
 
 -- ---- bytes that came in
 
+pub moved_down : (s : List ℕ) (from end : ℕ) → from ≤ end → end ≤ length s → (s' : List ℕ) → s' ≡ paste s 0 (drop from s) (end - from)
+    → take (end - from) s' ≡ take (end - from) (drop from s)
+moved_down s from end within there s' pasted =
+    let n = end - from in
+    let same : n ≡ 0 + n = omega arith in
+    rw pasted
+    (ap (λ (k : ℕ). take k (paste s 0 (drop from s) n)) same ∙ take-paste s 0 (drop from s) n (omega (arith, there)) (omega (arith, within, there, length-drop from s)))
+
 module _ (limit : ℕ) (mem : ServerMemory) (c : ℕ) (slot arrived : List ℕ) (size : ℕ) where
   -- what the connection holds afterwards, and memory
   abbrev gathered : Kept
@@ -46,16 +54,11 @@ module _ (limit : ℕ) (mem : ServerMemory) (c : ℕ) (slot arrived : List ℕ) 
     pub kept_moved : is_closed mem.marks c ≡ false → (mem' : ServerMemory) (at : ℕ)
         → keeping mem' (drop at lent_bytes) ≡ (settle (length lent_bytes) limit mem c lent_bytes).kept
         → at ≤ size + length arrived
-        → (slot'' : List ℕ) → slot'' ≡ paste slot' 0 (drop at slot') (size + length arrived - at)
+        → (slot'' : List ℕ) → take (size + length arrived - at) slot'' ≡ take (size + length arrived - at) (drop at slot')
         → keeping mem' (take (size + length arrived - at) slot'') ≡ gathered
     unfolding gather
-    kept_moved open' mem' at k within slot'' pasted =
+    kept_moved open' mem' at k within slot'' moved =
         let n = size + length arrived - at in
-        let same : n ≡ 0 + n = omega arith in
-        let long : length slot' ≡ length slot = rw copied (length_overwrite slot size arrived) in
-        let moved : take n slot'' ≡ take n (drop at slot') =
-        rw pasted (ap (λ (k : ℕ). take k (paste slot' 0 (drop at slot') n)) same
-        ∙ take-paste slot' 0 (drop at slot') n (omega arith) (omega (arith, length-drop at slot', long))) in
         let sum : at + n ≡ size + length arrived = omega arith in
         let part : take n (drop at slot') ≡ drop at lent_bytes = take_drop at n slot' ∙ rw sum in
         ap (keeping mem') (moved ∙ part) ∙ k ∙ ap (λ (held : List ℕ). (settle (length held) limit mem c held).kept) all_held

@@ -3,7 +3,7 @@
 
 mod slot;
 
-ghost use Rattle.std.specs.Prelude.{◌≡◌, [], ◌≤◌, length, drop};
+ghost use Rattle.std.specs.Prelude.{◌≡◌, [], ◌-◌, ◌≤◌, length, take, drop};
 ghost use Rattle.table.specs.Table.{max_entries};
 ghost use Rattle.soundness.specs.Sound.{connections};
 ghost use Rattle.protocol.specs.Run.{memory_after_run};
@@ -103,6 +103,18 @@ fn settle(memory: &mut Memory, c: usize, held: &[u8]) -> usize
     at
 }
 
+// Moves the bytes from a place on to the start. Most often nothing was taken, and they are there.
+#[tactic(auto, using(crate::proofs::GatherLaws::moved_down))]
+fn move_down(bytes: &mut [u8; SLOT_SIZE], from: usize, end: usize)
+    requires { (from ≤ end) × (end ≤ length bytes.old) }
+    ensures moved { take (end - from) bytes.new ≡ take (end - from) (drop from bytes.old) }
+    ensures size { length bytes.new ≡ length bytes.old }
+{
+    if from > 0 {
+        bytes.copy_within(from..end, 0);
+    }
+}
+
 // Bytes that came in for a connection, behind those that its slot holds.
 pub fn gather(memory: &mut Memory, c: usize, slot: &mut Slot, arrived: &[u8])
     requires sound { SoundMemory max_entries (server_of memory.old) }
@@ -117,6 +129,6 @@ pub fn gather(memory: &mut Memory, c: usize, slot: &mut Slot, arrived: &[u8])
     let end = slot.size + arrived.len();
     field::copy_into(&mut slot.bytes, slot.size, arrived);
     let at = settle(memory, c, &slot.bytes[..end]);
-    slot.bytes.copy_within(at..end, 0);
+    move_down(&mut slot.bytes, at, end);
     slot.size = end - at;
 }

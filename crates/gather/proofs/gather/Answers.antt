@@ -18,16 +18,16 @@ pub returns-clause-kept : goal.returns-clause-kept
 returns-clause-kept c =
     let slot = c.args.slot.now in
     kept_moved max_entries (server_of c.args.memory.now) c.args.c slot.bytes c.args.arrived.now slot.size c.copy_into.new.out c.copy_into.ensures (omega (arith, slot.short, c.requires.few))
-    (sym c.if-is_closed.ensures) _ c.settle-at.result c.settle-at.ensures.kept (omega (arith, c.settle-at.ensures.within)) c.copy_within.new.self c.copy_within.ensures.after
+    (sym c.if-is_closed.ensures) _ c.settle-at.result c.settle-at.ensures.kept (omega (arith, c.settle-at.ensures.within)) c.move_down.new.bytes c.move_down.ensures.moved
 
 pub invariant_of-slot : goal.invariant_of-slot
 invariant_of-slot c =
     let slot = c.args.slot.now in
     let kept =
     kept_moved max_entries (server_of c.args.memory.now) c.args.c slot.bytes c.args.arrived.now slot.size c.copy_into.new.out c.copy_into.ensures (omega (arith, slot.short, c.requires.few))
-    (sym c.if-is_closed.ensures) _ c.settle-at.result c.settle-at.ensures.kept (omega (arith, c.settle-at.ensures.within)) c.copy_within.new.self c.copy_within.ensures.after in
+    (sym c.if-is_closed.ensures) _ c.settle-at.result c.settle-at.ensures.kept (omega (arith, c.settle-at.ensures.within)) c.move_down.new.bytes c.move_down.ensures.moved in
     record {
       short =
           kept_short max_entries (server_of c.args.memory.now) c.args.c slot.bytes c.args.arrived.now slot.size (server_of c.settle-at.new.memory)
-          (slot.size + length c.args.arrived.now - c.settle-at.result) c.copy_within.new.self kept slot.short (omega (arith, slot.short)) (omega (arith, slot.short, c.requires.few));
+          (slot.size + length c.args.arrived.now - c.settle-at.result) c.move_down.new.bytes kept slot.short (omega (arith, slot.short)) (omega (arith, slot.short, c.requires.few, c.move_down.ensures.size));
     }
