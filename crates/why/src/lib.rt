@@ -64,7 +64,8 @@ fn why_ignored(table: SoundTable, m: &[u8]) -> Reason
 #[tactic(auto, using(crate::proofs::IgnoredLaws::stored_said))]
 fn why_taken(table: SoundTable, m: &[u8], decision: Decision) -> Reason
     requires { Explainable table.table.count m.now decision }
-    ensures { (c : ℕ) → result ≡ explain (entries_of (memory_of table.entry.table)) (get_or m.now 0 0) m.now (verdict_of c m.now (Ok decision)) }
+    ensures { (c : ℕ) → result
+        ≡ explain (entries_of (memory_of table.entry.table)) (get_or m.now 0 0) m.now (verdict_of c m.now (Ok decision)) }
 {
     match decision {
         Decision::Ignore(_) => why_ignored(table, m),
