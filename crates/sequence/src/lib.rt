@@ -39,7 +39,6 @@ impl SequenceNumber {
     // "s1 is said to be greater than s2 if, and only if, s1 is not equal to s2, and
     //      (i1 < i2 and i2 - i1 > 2^(SERIAL_BITS - 1)) or
     //      (i1 > i2 and i1 - i2 < 2^(SERIAL_BITS - 1))"
-    #[tactic(auto, using(std::proofs::lemmas::Bool::Decides::leb_tells), unfolding(crate::specs::SequenceNumber::passed_by))]
     pub fn is_passed_by(self, received: SequenceNumber) -> bool
         ensures { result ≡ passed_by self.0 received.0 }
     {
