@@ -171,7 +171,10 @@ pub fn copy_into(out: &mut [u8], at: usize, src: &[u8])
     requires { at + length src.now ≤ length out.old }
     ensures { out.new ≡ overwrite_at out.old at src.now }
 {
-    out[at..at + src.len()].copy_from_slice(src);
+    // Stays: by places, since `copy_from_slice` is a call of memmove, slower for a few bytes, and another name that C has to give.
+    for k in 0..src.len() {
+        out[at + k] = src[k];
+    }
 }
 
 // Whether two runs of bytes are equal.
