@@ -32,7 +32,7 @@ record Row (Range : ℕ → ℕ → ℕ → Type 0) (x n : ℕ) : Type 0 where
   range : Range x low high
   is : after_first x ≡ Tail low high n
 
-row_of_1 : (x : ℕ) → x < 0x80 → after_first x ≡ Boundary
+pub row_of_1 : (x : ℕ) → x < 0x80 → after_first x ≡ Boundary
 unfolding after_first pick
 row_of_1 x most = grind (arith, nat_tests)
 
@@ -69,18 +69,18 @@ no_row x out = grind (arith, nat_tests)
 
 -- ---- byte by byte
 
-first_byte : (x : ℕ) (s : List ℕ) (e : Expected) → after_first x ≡ e → utf8_from Boundary (x ∷ s) ≡ utf8_from e s
+pub first_byte : (x : ℕ) (s : List ℕ) (e : Expected) → after_first x ≡ e → utf8_from Boundary (x ∷ s) ≡ utf8_from e s
 unfolding utf8_from after_byte
 first_byte x s e is = ap (λ t. utf8_from t s) is
 
-asked_byte : (low high n b : ℕ) (s : List ℕ) → low ≤ b → b ≤ high → utf8_from (Tail low high n) (b ∷ s) ≡ utf8_from (still_to_come n) s
+pub asked_byte : (low high n b : ℕ) (s : List ℕ) → low ≤ b → b ≤ high → utf8_from (Tail low high n) (b ∷ s) ≡ utf8_from (still_to_come n) s
 unfolding utf8_from after_byte pick
 asked_byte low high n b s least most = rw (le-leb low b least, le-leb b high most)
 
 tail_byte : (n c : ℕ) (s : List ℕ) → utf8_from (Tail 0x80 0xBF n) (next c ∷ s) ≡ utf8_from (still_to_come n) s
 tail_byte n c s = asked_byte 0x80 0xBF n (next c) s (omega arith) (omega arith)
 
-invalid_stays : (s : List ℕ) → utf8_from Invalid s ≡ false
+pub invalid_stays : (s : List ℕ) → utf8_from Invalid s ≡ false
 unfolding utf8_from after_byte
 invalid_stays [] = refl
 invalid_stays (b ∷ s) = invalid_stays s

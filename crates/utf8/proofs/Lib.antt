@@ -1,2 +1,3 @@
 pub mod Utf8Laws
 pub mod CharactersLaws
+pub mod RowsLaws
