@@ -3,7 +3,6 @@
 
 ghost use Rattle.std.specs.Prelude.{◌≡◌, ◌∷◌, [], ◌+◌, ◌≤◌, length};
 ghost use Rattle.field.specs.Octets.{overwrite_at};
-ghost use Rattle.message.specs.Kinds.{kind_byte};
 ghost use Rattle.message.specs.Layout.{assignment_bytes, update_bytes, revision_bytes};
 ghost use Rattle.message.specs.Layout.{max_name_length, kind_size, revision_length, assignment_fixed, update_value_start};
 ghost use Rattle.message.specs.Lent.{entry_lent};
@@ -14,23 +13,24 @@ use message::{
 };
 
 // A message that is its kind alone.
-pub fn write_kind(out: &mut [u8], kind: Kind) -> usize
+// Stays, here and below: a byte, since every byte is written, those that no kind has too.
+pub fn write_kind(out: &mut [u8], kind: u8) -> usize
     requires { kind_size ≤ length out.old }
     ensures sent { result ≡ kind_size }
-    ensures output { out.new ≡ overwrite_at out.old 0 (kind_byte kind ∷ []) }
+    ensures output { out.new ≡ overwrite_at out.old 0 (kind ∷ []) }
 {
-    field::put_u8(out, 0, u8::from(kind));
+    field::put_u8(out, 0, kind);
     KIND_SIZE
 }
 
 // A kind and a revision.
 #[tactic(auto, using(field::proofs::OverwriteLaws::overwrite_append, field::proofs::OctetsLaws::length_encode16), unfolding(message::specs::Layout::revision_bytes, field::specs::Octets::encode16))]
-pub fn write_revision(out: &mut [u8], kind: Kind, revision: u16) -> usize
+pub fn write_revision(out: &mut [u8], kind: u8, revision: u16) -> usize
     requires { revision_length ≤ length out.old }
-    ensures sent { result ≡ length (revision_bytes (kind_byte kind) revision) }
-    ensures output { out.new ≡ overwrite_at out.old 0 (revision_bytes (kind_byte kind) revision) }
+    ensures sent { result ≡ length (revision_bytes kind revision) }
+    ensures output { out.new ≡ overwrite_at out.old 0 (revision_bytes kind revision) }
 {
-    field::put_u8(out, 0, u8::from(kind));
+    write_kind(out, kind);
     field::put_u16(out, KIND_SIZE, revision);
     REVISION_LENGTH
 }

@@ -49,5 +49,5 @@ pub fn write_hello(table: Table, out: &mut [u8]) -> usize
     for id in 0..table.count {
         end += write_entry(table, id, &mut out[end..]);
     }
-    end + encoder::write_kind(&mut out[end..], Kind::HelloComplete)
+    end + encoder::write_kind(&mut out[end..], u8::from(Kind::HelloComplete))
 }

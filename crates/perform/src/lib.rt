@@ -46,7 +46,7 @@ fn turn_away(marks: &mut [u8], c: usize, out: &mut [u8]) -> Answer
     if out.len() < REVISION_LENGTH {
         return answer::no_room();
     }
-    let sent = encoder::write_revision(out, Kind::Unsupported, judge::REVISION);
+    let sent = encoder::write_revision(out, u8::from(Kind::Unsupported), judge::REVISION);
     marks[c] = soundness::CLOSED;
     answer::done(recipients::only_sender(c), REVISION_LENGTH, sent)
 }

@@ -87,8 +87,12 @@ impl<'a> MessageFields<'a> {
             ≡ overwrite_at out.old 0 (bytes_of (check_by_kind (kind_byte kind) (given self.entry))) }
     {
         match kind {
-            Kind::KeepAlive | Kind::HelloComplete => encoder::write_kind(out, kind),
-            Kind::Hello | Kind::Unsupported => encoder::write_revision(out, kind, self.revision),
+            Kind::KeepAlive | Kind::HelloComplete => encoder::write_kind(out, u8::from(kind)),
+            Kind::Hello | Kind::Unsupported => encoder::write_revision(
+                out,
+                u8::from(kind),
+                self.revision,
+            ),
             Kind::Assignment => encoder::write_assignment(out, self.id, self.lent_entry()),
             Kind::Update => encoder::write_update(out, self.id, self.number, self.value),
         }

@@ -100,6 +100,6 @@ returns c =
     let all : c.loop-id.id ≡ t.count = omega (arith, c.loop-id.auto.id-end) in
     let done : Stored c.args.out.now (assignments_below t.count f) c.loop-id.out c.loop-id.end = rw (← all) c.loop-id.invariant.1 in
     let fits : c.loop-id.end + 1 ≤ length c.loop-id.out = omega (arith, c.loop-id.invariant.0, room_for_last t.count c.loop-id.end _ f done.reached c.requires.room) in
-    let whole = overwrite_rest c.loop-id.out c.write_kind.new.out (hello_complete_kind ∷ []) c.loop-id.end fits c.write_kind.ensures.output in
+    let whole = overwrite_rest c.loop-id.out c.write_kind.new.out (hello_complete_kind ∷ []) c.loop-id.end fits (rw c.from.ensures at c.write_kind.ensures.output) in
     let stored_all = store_next _ (hello_complete_kind ∷ []) (c.loop-id.end + c.write_kind.result) done whole (omega (arith, c.write_kind.ensures.sent)) in
     record { length = rw (hello_below t.count f) (omega (arith, stored_all.reached)); output = rw (hello_below t.count f) stored_all.so_far }

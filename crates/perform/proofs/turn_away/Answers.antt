@@ -18,4 +18,4 @@ pub returns : goal.returns
 unfolding execute pick
 returns c =
     λ table.
-    rw (c.done.ensures, c.write_revision-sent.ensures.sent, c.write_revision-sent.ensures.output, c.only_sender.ensures c.args.marks.now, le-leb (length (revision_bytes unsupported_kind protocol_revision)) (length c.args.out.now) (omega (arith, c.if-out-lt-REVISION_LENGTH.false, length_revision unsupported_kind protocol_revision)))
+    rw (c.done.ensures, c.write_revision-sent.ensures.sent, c.write_revision-sent.ensures.output, c.from.ensures, c.only_sender.ensures c.args.marks.now, le-leb (length (revision_bytes unsupported_kind protocol_revision)) (length c.args.out.now) (omega (arith, c.if-out-lt-REVISION_LENGTH.false, length_revision unsupported_kind protocol_revision)))
