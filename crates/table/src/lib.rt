@@ -4,7 +4,7 @@
 ghost use Rattle.std.specs.Prelude.{◌≡◌, ◌↔◌, ◌+◌, ◌≤◌, ◌<◌, length, IsTrue};
 ghost use Rattle.table.specs.Names.{entry_named};
 ghost use Rattle.table.specs.Table.{head_size, name_length_field, value_length_field, type_field, number_field};
-ghost use Rattle.table.specs.Table.{head_field, HasHead, HasName, HasValue, entry_of};
+ghost use Rattle.table.specs.Table.{head_field, HasHead, HasName, HasValue, entry_at, entry_of};
 ghost use Rattle.table.specs.Table.{Holds, Named, Readable, entries_of, parse_held_update};
 ghost use Rattle.table.specs.Table.{lent, max_entries, store_entry};
 ghost use Rattle.table.specs.Table.{heads_with_entry, bytes_with_entry, heads_with_value, bytes_with_value};
@@ -44,6 +44,31 @@ pub const NUMBER: usize = 3;
 pub const HEADS_SIZE: usize = HEAD_SIZE * MAX_ENTRIES;
 
 pub const BYTES_SIZE: usize = ENTRY_SIZE * MAX_ENTRIES;
+
+// ---- names, of as many entries as are lent
+
+#[tactic(auto, unfolding(crate::specs::Table::entry_at))]
+fn name_at<'a>(heads: &[u16], bytes: &'a [u8], i: usize) -> &'a [u8]
+    requires { HasName i heads.now bytes.now }
+    ensures { result.now ≡ (entry_at heads.now bytes.now i).name }
+{
+    let size = usize::from(heads[HEAD_SIZE * i + NAME_LENGTH]);
+    &bytes[ENTRY_SIZE * i..][..size]
+}
+
+// The ID of the first of so many entries whose name is equal. Stays: the count is no table's, since more may be lent than a table has.
+#[tactic(auto, using(crate::proofs::SearchLaws::has_name, crate::proofs::SearchLaws::named_at, crate::proofs::SearchLaws::named_nowhere), unfolding(crate::specs::Table::entries_of))]
+pub fn find_name(heads: &[u16], bytes: &[u8], count: usize, name: &[u8]) -> Option<usize>
+    requires { Named count heads.now bytes.now }
+    ensures { result ≡ entry_named name.now (entries_of (lent heads.now bytes.now count)) }
+{
+    for i in 0..count {
+        if is_name(name_at(heads, bytes, i), name) {
+            return Some(i);
+        }
+    }
+    None
+}
 
 // ---- a table that is read
 
@@ -101,12 +126,11 @@ impl<'a> Table<'a> {
         self.head_field(i, NUMBER)
     }
 
-    #[tactic(auto, unfolding(crate::specs::Table::entry_at))]
     pub fn name_of(self, i: usize) -> &'a [u8]
         requires { HasName i self.heads.now self.bytes.now }
         ensures { result.now ≡ (entry_of (memory_of self.entry) i).name }
     {
-        &self.bytes[ENTRY_SIZE * i..][..self.name_length_of(i)]
+        name_at(self.heads, self.bytes, i)
     }
 
     #[tactic(auto, unfolding(crate::specs::Table::entry_at))]
@@ -131,17 +155,11 @@ impl<'a> Table<'a> {
     }
 
     // The ID of the first entry whose name is equal.
-    #[tactic(auto, using(crate::proofs::SearchLaws::has_name, crate::proofs::SearchLaws::named_at, crate::proofs::SearchLaws::named_nowhere), unfolding(crate::specs::Table::entries_of))]
     pub fn find_name(self, name: &[u8]) -> Option<usize>
         requires { Named self.count self.heads.now self.bytes.now }
         ensures { result ≡ entry_named name.now (entries_of (memory_of self.entry)) }
     {
-        for i in 0..self.len() {
-            if is_name(self.name_of(i), name) {
-                return Some(i);
-            }
-        }
-        None
+        find_name(self.heads, self.bytes, self.len(), name)
     }
 
     // An update of a held ID, read with its stored type.
@@ -159,8 +177,10 @@ impl<'a> Table<'a> {
     }
 }
 
-// The bytes of names that are compared first.
-const FRONT: usize = 8;
+// The bytes of names that are compared first, where a name has so many.
+const FRONT: usize = 16;
+
+const SHORT_FRONT: usize = 8;
 
 // Whether a held name is equal. Most names differ in length or in their first bytes: those are compared at once, before the library is
 // asked about the whole.
@@ -169,6 +189,7 @@ pub fn is_name(held: &[u8], name: &[u8]) -> bool
 {
     held.len() == name.len()
         && held.first_chunk::<FRONT>() == name.first_chunk::<FRONT>()
+        && held.first_chunk::<SHORT_FRONT>() == name.first_chunk::<SHORT_FRONT>()
         && held == name
 }
 
