@@ -108,5 +108,19 @@ pub fn receive(
         count,
         marks,
     };
-    server::receive(&mut memory, c, m, out)
+    // The answer goes on in its parts (docs/DECISIONS.md, Speed).
+    let Answer {
+        number,
+        recipients,
+        taken,
+        sent,
+        place,
+    } = server::receive(&mut memory, c, m, out);
+    Answer {
+        number,
+        recipients,
+        taken,
+        sent,
+        place,
+    }
 }

@@ -77,6 +77,7 @@ fn store(changes: bool, flat: &[u16], heads: &mut [Head])
 }
 
 // A call that may change heads, made on their numbers. It is lent, so that its caller knows what the references that it holds then lend.
+#[inline(always)]
 pub fn change<R: Answered + Drop, F: FnMut(&mut [u16]) -> R>(heads: &mut [Head], call: &mut F) -> R
     requires callable { (x : _) → length x.now ≡ head_numbers → F.pre call.old x }
     ensures { NotMade R.on_unsound call.old heads.old result call.new heads.new
@@ -91,6 +92,7 @@ pub fn change<R: Answered + Drop, F: FnMut(&mut [u16]) -> R>(heads: &mut [Head],
 }
 
 // A call that only reads heads, made on their numbers.
+#[inline(always)]
 pub fn read<R: Answered + Drop, F: FnMut(&[u16]) -> R>(heads: &[Head], call: &mut F) -> R
     requires callable { (x : _) → length x.now ≡ head_numbers → F.pre call.old x }
     ensures { NotMade R.on_unsound call.old heads.now result call.new heads.now

@@ -33,6 +33,7 @@ pub fn nt2_fresh(heads: &[Head], bytes: &[u8], count: &mut u16, marks: &mut [u8]
 }
 
 // A connection opens or leaves.
+#[inline(always)]
 #[tactic(auto, using(crate::proofs::Calls::few_answered, crate::proofs::Calls::read_call))]
 fn change_mark(
     heads: &[Head],

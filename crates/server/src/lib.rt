@@ -21,7 +21,8 @@ use scalar::Scalar;
 use soundness::SoundTable;
 use table::Table;
 
-// The table, where it and the marks are sound.
+// The table, where it and the marks are sound. It is put into its callers, which then need no memory for its answer.
+#[inline(always)]
 pub fn sound<'a>(table: Table<'a>, marks: &[u8]) -> Option<SoundTable<'a>>
     ensures some { IsSome result ↔ ((sound_table max_entries (memory_of table.entry) && sound_marks marks.now) ≡ true) }
     ensures same { IfSome result (λ sound. sound.table ≡ table.entry) }
