@@ -7,9 +7,10 @@ use std::io;
 const TEXT_SIZE: usize = 102500;
 
 fn main(rt: HostRuntime) -> io::Result<()> {
+    // The text first, so that its memory is cleared once.
+    let mut text = [0u8; TEXT_SIZE];
     let mut input = [0u8; listing::STREAM_SIZE];
     let n = script::read_full(&mut rt.stdin(), &mut input)?;
-    let mut text = [0u8; TEXT_SIZE];
     let end = listing::write_listing(&input[..n], &mut text);
     rt.write_all(&text[..end])
 }

@@ -2,9 +2,9 @@
 use crate::memory::Memory;
 use std::io;
 
-// A copy that is made, on stale memory, of what was sent. A message that is refused is told, and ends it.
-pub fn copied(rt: &impl Print, s: &[u8]) -> io::Result<Memory> {
-    let mut copy = Memory::fresh_copy();
+// A copy is made, on stale memory that is lent, of what was sent. A message that is refused is told, and ends it.
+pub fn receive_all(rt: &impl Print, copy: &mut Memory, s: &[u8]) -> io::Result<()> {
+    copy.copy_fresh();
     let mut rest = s;
     // Stays: no plainer. Messages have sizes of their own.
     while !rest.is_empty() {
@@ -15,14 +15,14 @@ pub fn copied(rt: &impl Print, s: &[u8]) -> io::Result<Memory> {
         }
         rest = script::after(rest, taken);
     }
-    Ok(copy)
+    Ok(())
 }
 
 pub fn compare(
     rt: &impl Print,
     client: usize,
-    mut server: Memory,
-    mut copy: Memory,
+    server: &mut Memory,
+    copy: &mut Memory,
 ) -> io::Result<()> {
     let mut of_server = [0u8; hello::LONGEST_HELLO];
     let mut of_copy = [0u8; hello::LONGEST_HELLO];

@@ -53,15 +53,6 @@ struct Run {
 }
 
 impl Run {
-    fn new(bit: u16) -> Run {
-        Run {
-            server: Memory::stale(),
-            output: [0xA5; OUTPUT_SIZE],
-            kept: 0..0,
-            bit,
-        }
-    }
-
     // What is sent to another client is not kept, and the answer to a hello begins anew.
     fn keep(&mut self, start: usize, a: &Answer, hello: bool) {
         if a.recipients & self.bit == 0 {
@@ -101,11 +92,18 @@ impl Run {
     }
 }
 
+// The output and both memories are made here and lent from here on: handed on by value, each would stand on the stack again.
 fn run_for(rt: &impl Print, s: &[u8], client: usize, bit: u16) -> io::Result<()> {
-    let mut run = Run::new(bit);
+    let mut run = Run {
+        server: Memory::stale(),
+        output: [0xA5; OUTPUT_SIZE],
+        kept: 0..0,
+        bit,
+    };
     run.play(rt, s)?;
-    let copy = copies::copied(rt, run.sent())?;
-    copies::compare(rt, client, run.server, copy)
+    let mut copy = Memory::stale();
+    copies::receive_all(rt, &mut copy, run.sent())?;
+    copies::compare(rt, client, &mut run.server, &mut copy)
 }
 
 fn main(rt: HostRuntime) -> io::Result<()> {

@@ -25,11 +25,9 @@ impl Memory {
         }
     }
 
-    // A copy that has no entry.
-    pub fn fresh_copy() -> Memory {
-        let mut copy = Memory::stale();
-        start::copy_fresh(&copy.heads, &copy.bytes, &mut copy.count);
-        copy
+    // A copy has no entry at first.
+    pub fn copy_fresh(&mut self) {
+        start::copy_fresh(&self.heads, &self.bytes, &mut self.count);
     }
 
     // A copy's message from the server: how many bytes it has, and 0 where it is refused.
