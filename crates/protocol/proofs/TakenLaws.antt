@@ -1,4 +1,4 @@
--- "Ok" is the length of the message that stands first, and "sent" that of the messages written.
+-- "Taken" is the length of the message that stands first, and "sent" that of the messages written.
 use Rattle.std.specs.Prelude.{Err, Ok}
 use mathlib.Core.Path.{◌≡◌, refl, sym, ap, subst, ◌∙◌}
 use mathlib.Core.Logic.{◌≢◌, ◌⊎◌, inl, inr}
