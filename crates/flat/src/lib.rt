@@ -1,7 +1,7 @@
 // What C's calls hand on to where the core has another form: the server's memory lent in parts, and a scalar as C's struct.
 #![tactic(auto)]
 
-ghost use Rattle.std.specs.Prelude.{◌≡◌, Err, false};
+ghost use Rattle.std.specs.Prelude.{◌≡◌, [], Err, false};
 ghost use Rattle.field.specs.declared.Refusal.TheVariants.{Unsound};
 ghost use Rattle.table.specs.Memory.{memory_of};
 ghost use Rattle.table.specs.Table.{max_entries};
@@ -9,10 +9,12 @@ ghost use Rattle.protocol.specs.Judge.{client_message};
 ghost use Rattle.protocol.specs.Step.{read_scalar};
 ghost use Rattle.protocol.specs.Place.{step_with_place};
 ghost use Rattle.protocol.specs.Lent.{lent_server, lent_call, answered};
+ghost use Rattle.judge.specs.Decision.{mark_call};
 ghost use Rattle.flat.specs.Answers.{scalar_answer};
 
 use answer::{Answer, Answered};
 use field::{DONE, Refusal};
+use judge::MarkChange;
 use protocol::Memory;
 use scalar::Scalar;
 use table::Table;
@@ -87,6 +89,49 @@ pub fn read(table: Table, id: u16) -> ScalarAnswer
     ScalarAnswer::from(server::read(table, id))
 }
 
+// The same answer: it goes on in its parts (docs/DECISIONS.md, Speed).
+#[inline(always)]
+fn in_parts(answer: Answer) -> Answer
+    ensures { result ≡ answer }
+{
+    let Answer {
+        number,
+        recipients,
+        taken,
+        sent,
+        place,
+    } = answer;
+    Answer {
+        number,
+        recipients,
+        taken,
+        sent,
+        place,
+    }
+}
+
+// A connection opens or leaves. It is put into its callers, which then write the answer's parts at once.
+#[inline(always)]
+pub fn change_mark(
+    heads: &[u16],
+    bytes: &[u8],
+    count: u16,
+    marks: &mut [u8],
+    c: usize,
+    change: MarkChange,
+) -> Answer
+    ensures { answered result (lent_server heads.now bytes.now count marks.new) []
+        ≡ step_with_place max_entries (lent_server heads.now bytes.now count marks.old)
+        (record { call = mark_call change c; output = [] }) }
+{
+    let table = Table {
+        heads,
+        bytes,
+        count,
+    };
+    in_parts(server::change_mark(table, marks, c, change))
+}
+
 // One message of a client.
 // Stays: tried in the closure, and it is refused: the borrow check does not cover a struct of lent slices there.
 pub fn receive(
@@ -108,19 +153,5 @@ pub fn receive(
         count,
         marks,
     };
-    // The answer goes on in its parts (docs/DECISIONS.md, Speed).
-    let Answer {
-        number,
-        recipients,
-        taken,
-        sent,
-        place,
-    } = server::receive(&mut memory, c, m, out);
-    Answer {
-        number,
-        recipients,
-        taken,
-        sent,
-        place,
-    }
+    in_parts(server::receive(&mut memory, c, m, out))
 }

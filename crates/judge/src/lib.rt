@@ -217,7 +217,9 @@ pub fn judge_create(
     Ok(())
 }
 
-// Local write: the number that is stored with the value, or none where the entry has the value already.
+// Local write: the number that is stored with the value, or none where the entry has the value already. It is put into its callers, so
+// that the verdict does not go through memory.
+#[inline(always)]
 pub fn judge_write(table: SoundTable, id: u16, value: &[u8]) -> Result<Option<u16>, Fault>
     ensures { (marks : List ℕ) →
         DecidesWrite table.entry.table.count id value.now result

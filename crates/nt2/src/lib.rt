@@ -5,7 +5,6 @@
 ghost use Rattle.std.specs.Prelude.{◌≡◌, []};
 ghost use Rattle.protocol.specs.Judge.{open_connection, leave, client_message, local_create, local_write};
 ghost use Rattle.protocol.specs.Lent.{lent_call};
-ghost use Rattle.judge.specs.Decision.{mark_call};
 ghost use Rattle.message.specs.Reader.{parse_message};
 ghost use Rattle.writer.specs.Writer.{lent_fields, check, write_with_place, written};
 ghost use Rattle.fields.specs.Fields.{fields_with_place, fields_in};
@@ -32,34 +31,7 @@ pub fn nt2_fresh(heads: &[Head], bytes: &[u8], count: &mut u16, marks: &mut [u8]
     )
 }
 
-// A connection opens or leaves.
-#[inline(always)]
 #[tactic(auto, using(crate::proofs::Calls::few_answered, crate::proofs::Calls::read_call))]
-fn change_mark(
-    heads: &[Head],
-    bytes: &[u8],
-    count: u16,
-    marks: &mut [u8],
-    connection: usize,
-    change: MarkChange,
-) -> Answer
-    ensures { heads_answered result (lent heads.now bytes.now count marks.new) []
-        ≡ heads_step (lent heads.now bytes.now count marks.old)
-        (record { call = mark_call change connection; output = [] }) }
-{
-    heads::read(
-        heads,
-        &mut |flat: &[u16]| {
-            let table = Table {
-                heads: flat,
-                bytes,
-                count,
-            };
-            server::change_mark(table, marks, connection, change)
-        },
-    )
-}
-
 pub fn nt2_open(
     heads: &[Head],
     bytes: &[u8],
@@ -71,9 +43,14 @@ pub fn nt2_open(
         ≡ heads_step (lent heads.now bytes.now count.old marks.old)
         (record { call = open_connection connection; output = [] }) }
 {
-    change_mark(heads, bytes, *count, marks, connection, MarkChange::Open)
+    let change = MarkChange::Open;
+    heads::read(
+        heads,
+        &mut |flat: &[u16]| flat::change_mark(flat, bytes, *count, marks, connection, change),
+    )
 }
 
+#[tactic(auto, using(crate::proofs::Calls::few_answered, crate::proofs::Calls::read_call))]
 pub fn nt2_leave(
     heads: &[Head],
     bytes: &[u8],
@@ -85,7 +62,11 @@ pub fn nt2_leave(
         ≡ heads_step (lent heads.now bytes.now count.old marks.old)
         (record { call = leave connection; output = [] }) }
 {
-    change_mark(heads, bytes, *count, marks, connection, MarkChange::Close)
+    let change = MarkChange::Close;
+    heads::read(
+        heads,
+        &mut |flat: &[u16]| flat::change_mark(flat, bytes, *count, marks, connection, change),
+    )
 }
 
 pub fn nt2_receive(

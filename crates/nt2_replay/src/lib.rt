@@ -2,6 +2,10 @@
 #![tactic(auto)]
 
 ghost use Rattle.std.specs.Prelude.{◌≡◌};
+ghost use Rattle.table.specs.Table.{max_entries};
+ghost use Rattle.protocol.specs.Lent.{lent_server};
+ghost use Rattle.line_record.specs.Replay.{replay, result_of};
+ghost use Rattle.replay.specs.Lent.{replayed};
 ghost use Rattle.nt2.specs.Lent.{lent};
 ghost use Rattle.nt2_replay.specs.Lent.{heads_replayed, heads_replay};
 
@@ -21,6 +25,10 @@ pub fn nt2_replay(
 {
     heads::change(
         heads,
-        &mut |flat: &mut [u16]| replay::replay(flat, bytes, count, marks, recorded),
+        &mut |flat: &mut [u16]|
+            ensures { replayed result (lent_server flat.new bytes.exit.now count.exit.now marks.exit.now)
+                ≡ result_of (replay max_entries (lent_server flat.old bytes.entry.now
+                count.entry.now marks.entry.now) recorded.entry.now) }
+        { replay::replay(flat, bytes, count, marks, recorded) },
     )
 }

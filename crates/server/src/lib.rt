@@ -36,7 +36,8 @@ pub fn sound<'a>(table: Table<'a>, marks: &[u8]) -> Option<SoundTable<'a>>
 
 // ---- opening and leaving
 
-// A connection opens or leaves.
+// A connection opens or leaves. It is put into its callers, as `sound` is.
+#[inline(always)]
 #[tactic(auto, using(crate::proofs::StepLaws::unsound_mark, crate::proofs::StepLaws::judged_mark, soundness::proofs::ReadableLaws::sixteen_marks))]
 pub fn change_mark(table: Table, marks: &mut [u8], c: usize, change: MarkChange) -> Answer
     ensures { answered result (beside_marks (memory_of table.entry) marks.new) []

@@ -104,6 +104,7 @@ fn ascii_front(s: &[u8]) -> usize
         return 16;
     }
     let mut n = 0;
+    // Stays: a count, which ends at the first byte that is not ASCII.
     while n < s.len() && s[n] <= 0x7F {
         n += 1;
     }
@@ -117,6 +118,7 @@ fn are_characters(s: &[u8]) -> bool
     ensures { result ≡ is_utf8 s.now }
 {
     let mut rest = s;
+    // Stays: characters have sizes of their own.
     while !rest.is_empty() {
         match after_first(rest[0]) {
             Expected::Boundary => {
@@ -135,7 +137,7 @@ fn are_characters(s: &[u8]) -> bool
     true
 }
 
-// The same of N to 2N bytes, by the first N and the last, which meet or overlap.
+// Whether no byte is above 0x7F, where it says so, of N to 2N bytes: by the first N and the last, which meet or overlap.
 fn ends_are_ascii<const N: usize>(s: &[u8]) -> bool
     requires { (N ≤ length s.now) × (length s.now ≤ N + N) }
     ensures { OnTrue result (IsAscii s.now) }
@@ -143,7 +145,7 @@ fn ends_are_ascii<const N: usize>(s: &[u8]) -> bool
     no_high_byte(&s[..N]) & no_high_byte(&s[s.len() - N..])
 }
 
-// The same of any text. From 4 bytes on, one under 32 is two blocks; a longer one is its last 32 bytes and its whole 32s.
+// The same of any number of bytes. From 4 on, fewer than 32 are two blocks; more are the last 32 and the whole 32s.
 fn are_ascii(s: &[u8]) -> bool
     ensures { OnTrue result (IsAscii s.now) }
 {
