@@ -145,7 +145,7 @@ fn ends_are_ascii<const N: usize>(s: &[u8]) -> bool
     no_high_byte(&s[..N]) & no_high_byte(&s[s.len() - N..])
 }
 
-// The same of any number of bytes. From 4 on, fewer than 32 are two blocks; more are the last 32 and the whole 32s.
+// The same of any number of bytes. 4 to 31 of them are two blocks; 32 and more are the last 32 and the whole 32s.
 fn are_ascii(s: &[u8]) -> bool
     ensures { OnTrue result (IsAscii s.now) }
 {
